@@ -3,15 +3,15 @@ use Rattle.std.proofs.Common.{zero, suc, ◌≡◌, ℕ, ◌+◌, ◌-◌, ◌*�
 use Rattle.std.specs.Prelude.{slice_range}
 use Rattle.std.specs.List.{range_with_len, flat_map, sum_by}
 use Rattle.std.proofs.lemmas.Bool.{or_right, le-leb}
-use Rattle.std.proofs.lemmas.List.{drop-take, take-take, length-take-le, length-drop, take_at, take_all, ext_get_or, get_or-take, get_or-drop, take-map, drop-map}
-use Rattle.std.proofs.lemmas.List.FromFn.{length-range_with_len, length-map-range_with_len, get_or-map-range_with_len}
+use Rattle.std.proofs.lemmas.List.{drop-take, take-take, length-take-le, length-drop, take_at, take_all, ext_get_or, get_or-take, get_or-drop, get_or-map, length-map, take-map, drop-map}
+use Rattle.std.proofs.lemmas.List.FromFn.{get_or-range_with_len, length-range_with_len, length-map-range_with_len, get_or-map-range_with_len}
 use Rattle.std.proofs.lemmas.List.Sums.{sum_by_more, sum_by-cons, sum_by_more_le}
 use Rattle.vx_arrow_image.specs.declared.format.Offsets.{Offsets}
 use Rattle.vx_arrow_image.specs.Rows.{RowValue, null, picked}
 use Rattle.vx_arrow_image.specs.Image.{Part, holds_offsets, is_cut, are_cut, limit_of, offset_at, size_of}
 use Rattle.vx_arrow_image.proofs.CutRows.{are_cut_from, cut_end, cut_from, cut_up}
 use Rattle.vx_arrow_columns.specs.Picks.{items_len, items_of, place_of, row_items, row_len}
-use Rattle.vx_arrow_columns.specs.Taken.{AreCutAt, AreOffsets, AreOrdered, row_text, texts_of}
+use Rattle.vx_arrow_columns.specs.Taken.{AreCutAt, AreOffsets, AreOrdered, AreWithin, row_text, texts_of}
 
 -- ---- a piece of joined pieces
 
@@ -38,7 +38,7 @@ front_len g f q n d low h = joined_len g f (take n q) d (λ k b.
     ap (λ x. length (g x)) (get_or-take n q k d few) ∙ h k (omega arith) ∙ ap f (sym (get_or-take n q k d few)))
 
 -- lists that begin alike are cut alike there
-cut_front : {X : Type 0} (xs : List X) (a w n : ℕ) → a + w ≤ n → take w (drop a (take n xs)) ≡ take w (drop a xs)
+pub cut_front : {X : Type 0} (xs : List X) (a w n : ℕ) → a + w ≤ n → take w (drop a (take n xs)) ≡ take w (drop a xs)
 cut_front xs a w n h =
     let e : n ≡ a + (n - a) = omega arith in
     ap (λ m. take w (drop a (take m xs))) e ∙ ap (take w) (drop-take a (n - a) xs) ∙ take-take w (n - a) (drop a xs) (omega arith)
@@ -141,32 +141,45 @@ picked_some : (c : List RowValue) (places : List ℕ) → picked (map Some place
 picked_some c [] = refl
 picked_some c (i ∷ is) = ap (λ l. get_or c i null ∷ l) (picked_some c is)
 
-pub range_reads : (c : List RowValue) (s n : ℕ) → s + n ≤ length c → map (λ i. get_or c i null) (range_with_len s n) ≡ take n (drop s c)
+-- rows from s on, of which the last is there, if there are any
+pub range_reads : (c : List RowValue) (s n : ℕ) → n ≤ length c - s → map (λ i. get_or c i null) (range_with_len s n) ≡ take n (drop s c)
 range_reads c s n h = ext_get_or null _ _ (length-map-range_with_len (λ i. get_or c i null) s n ∙ sym (length-take-le n (drop s c) (omega (arith, length-drop s c)))) (λ k b.
     let below : k < n = omega (arith, length-map-range_with_len (λ i. get_or c i null) s n) in
     get_or-map-range_with_len (λ i. get_or c i null) s n k (s + k) null below refl ∙ sym (get_or-take n (drop s c) k null below ∙ get_or-drop s c k null))
 
+-- numbers that are cut out of some that are below n
+cut_below : (xs : List ℕ) (n s a w : ℕ) → AreWithin (map Some xs) n → a + w ≤ length xs → take w (drop a xs) ≡ range_with_len s w → w ≤ n - s
+cut_below xs n s a zero within room e = omega arith
+cut_below xs n s a (suc w) within room e =
+    let low : a + w < length xs = omega arith in
+    let last : get_or xs (a + w) 0 ≡ s + w =
+    sym (get_or-drop a xs w 0) ∙ sym (get_or-take (suc w) (drop a xs) w 0 (omega arith)) ∙ ap (λ (l : List ℕ). get_or l w 0) e ∙ get_or-range_with_len s (suc w) w 0 (omega arith) in
+    let below = within.below (a + w) (s + w) (omega (arith, length-map xs Some)) (get_or-map Some xs (a + w) 0 None low ∙ ap Some last) in
+    omega arith
+
 pub list_cell : (z : Offsets) (p : Part) (q : List (Option ℕ)) (c : List RowValue) (k i a b : ℕ) → k < length q → place_of p (get_or q k None) ≡ Some i
-    → is_cut z p (length c) i ≡ true → a ≡ items_len z p (take k q) → b ≡ items_len z p (take (k + 1) q)
+    → offset_at z p.offsets i ≤ offset_at z p.offsets (i + 1) → AreWithin (map Some (items_of z p q)) (length c) → a ≡ items_len z p (take k q) → b ≡ items_len z p (take (k + 1) q)
     → slice_range (picked (map Some (items_of z p q)) c) a b ≡ slice_range c (offset_at z p.offsets i) (offset_at z p.offsets (i + 1))
 unfolding items_of items_len
-list_cell z p q c k i a b h there cut from to =
+list_cell z p q c k i a b h there up within from to =
     let g = λ (o : Option ℕ). row_items z p (place_of p o) in
     let f = λ (o : Option ℕ). row_len z p (place_of p o) in
     let x = λ (i : ℕ). get_or c i null in
     let s = offset_at z p.offsets i in
     let e = offset_at z p.offsets (i + 1) in
-    let up = cut_up z p (length c) i cut in
-    let end = cut_end z p (length c) i cut in
     let each : (j : ℕ) → j < length q → length (g (get_or q j None)) ≡ f (get_or q j None) = λ j l. row_count (place_of p (get_or q j None)) in
     let front : length (flat_map g (take k q)) ≡ sum_by f (take k q) = front_len g f q k None (omega arith) each in
     let own : length (g (get_or q k None)) ≡ f (get_or q k None) = each k h in
     let more : sum_by f (take (k + 1) q) ≡ sum_by f (take k q) + f (get_or q k None) = sum_by_more f q k None h in
     let size : b - a ≡ length (g (get_or q k None)) = omega arith in
+    let total : length (flat_map g q) ≡ sum_by f q = joined_len g f q None each in
+    let inside : sum_by f (take k q) + f (get_or q k None) ≤ sum_by f q = sum_by_more_le f q k None h in
+    let wide : b - a ≡ e - s = omega (arith, ap (row_len z p) there) in
+    let row : take (b - a) (drop a (flat_map g q)) ≡ range_with_len s (e - s) =
+    ap₂ (λ (m : ℕ) (n : ℕ). take m (drop n (flat_map g q))) size (from ∙ sym front) ∙ piece g q k None h ∙ ap (row_items z p) there in
     ap (λ (l : List RowValue). slice_range l a b) (picked_some c (flat_map g q))
-    ∙ cut_map x (flat_map g q) a b
-    ∙ ap (map x) (ap₂ (λ (m : ℕ) (n : ℕ). take m (drop n (flat_map g q))) size (from ∙ sym front) ∙ piece g q k None h ∙ ap (row_items z p) there)
-    ∙ range_reads c s (e - s) (omega arith)
+    ∙ cut_map x (flat_map g q) a b ∙ ap (map x) row
+    ∙ range_reads c s (e - s) (cut_below (flat_map g q) (length c) s a (e - s) within (omega arith) (ap (λ (m : ℕ). take m (drop a (flat_map g q))) (sym wide) ∙ row))
   where
     row_count : (o : Option ℕ) → length (row_items z p o) ≡ row_len z p o
     row_count None = refl

@@ -18,6 +18,7 @@ use Rattle.vx_arrow_columns.specs.Taken.{AreDense, AreTagged, IsOwnTaken, IsRead
 use Rattle.vx_arrow_columns.specs.Written.{new_part}
 use Rattle.vx_arrow_columns.proofs.Columns.{placed}
 use Rattle.vx_arrow_columns.proofs.OwnTaken.{counts, few_picks, held_by}
+use Rattle.vx_arrow_columns.proofs.RowsAt.{column_within}
 use Rattle.vx_arrow_columns.proofs.UnionRows.{bare_place, child_there, no_bits}
 
 -- ---- the rows of one child
@@ -139,8 +140,9 @@ dense_taken p q o x s format r room_x room_s room_o are ids dense =
           let inside : offset_at Short o k < get_or lens j 0 = omega (arith, own.0) in
           let there : dense_test lens (offset_at Short o k) j ≡ true = and_from _ _ (lt-ltb _ _ small) (lt-ltb _ _ inside) in
           sym (dense_is w lens k (offset_at Short o k) j refl child) ∙ there))));
-      column = λ cs ds at sound. record {
+      column = λ cs ds at. record {
         len = length_column w ds;
+        within = column_within p q.picks cs r.within;
         at = λ k i h e.
             let low = r.within.below k i h e in
             let j = dense_child p (get_or q.picks k None) in

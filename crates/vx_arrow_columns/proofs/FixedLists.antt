@@ -1,9 +1,9 @@
 -- Lists of a fixed size.
-use Rattle.std.proofs.Common.{◌≡◌, ℕ, ◌+◌, ◌-◌, ◌*◌, ◌/◌, ◌%◌, ◌^◌, ◌<◌, ◌≤◌, Bool, true, false, cond, List, [], ◌∷◌, ◌++◌, length, get_or, take, drop, map, Option, Some, None, ap, ap₂, sym, ◌∙◌, refl, subst, inl, inr, arith, eqb}
+use Rattle.std.proofs.Common.{◌≡◌, ℕ, ◌+◌, ◌-◌, ◌*◌, ◌/◌, ◌%◌, ◌^◌, ◌<◌, ◌≤◌, Bool, true, false, cond, List, [], ◌∷◌, ◌++◌, length, get_or, take, drop, Option, Some, None, ap, ap₂, sym, ◌∙◌, refl, subst, inl, inr, arith}
 use Rattle.std.specs.Prelude.{is_some, replicate}
 use Rattle.std.specs.Option.{option_map}
-use Rattle.std.proofs.lemmas.Bool.{and_parts, and_from, cases_eq, cases_lt, eq-eqb, le-leb, leb-true}
-use Rattle.std.proofs.lemmas.List.{ext_get_or, get_or-map, get_or-take, get_or-drop, length-take-le, length-drop, get_or_append_left, get_or-append_right}
+use Rattle.std.proofs.lemmas.Bool.{and_from, cases_eq, cases_lt, eq-eqb, le-leb}
+use Rattle.std.proofs.lemmas.List.{ext_get_or, get_or-take, get_or-drop, length-take-le, length-drop, get_or_append_left, get_or-append_right}
 use Rattle.std.proofs.lemmas.List.FromFn.{length-map-range_with_len, get_or-map-range_with_len}
 use Rattle.std.proofs.lemmas.Nat.{div-mul-add, mod-mul-add, div-add-mod'}
 use Rattle.std.proofs.Math.Nat.{mul-le-mul_left, mul-le-mul_right, mod-lt}
@@ -12,13 +12,13 @@ use Rattle.vx_arrow_image.specs.declared.format.Format.TheVariants.{FixedList}
 use Rattle.vx_arrow_image.specs.Rows.{RowValue, null, list, row_values}
 use Rattle.vx_arrow_image.specs.Image.{Part, bit_of, holds_valid, is_sound, is_valid, value_at, column_of}
 use Rattle.vx_arrow_columns.specs.Measured.{AreItemPlaces}
-use Rattle.vx_arrow_columns.specs.Picks.{Picking, inners_by, fixed_item, fixed_items, inner, inner_picks, pick_at, picks_of, tags}
+use Rattle.vx_arrow_columns.specs.Picks.{Picking, inners_by, fixed_item, fixed_items, inner, inner_picks, pick_at, picks_of}
 use Rattle.vx_arrow_columns.specs.Taken.{AreWithin, IsOwnTaken, IsReadable, ShowsRows, AreAt}
 use Rattle.vx_arrow_columns.specs.Written.{PutsBit, new_part}
-use Rattle.vx_arrow_image.proofs.SoundNodes.{sound_fits, sound_from}
+use Rattle.vx_arrow_image.proofs.SoundNodes.{sound_from}
 use Rattle.vx_arrow_columns.proofs.Columns.{placed, place_some, same_column}
 use Rattle.vx_arrow_columns.proofs.OwnTaken.{few_picks, held_by, own_taken}
-use Rattle.vx_arrow_columns.proofs.RowsAt.{first_at, picked_at}
+use Rattle.vx_arrow_columns.proofs.RowsAt.{column_at, first_at}
 use Rattle.vx_arrow_columns.proofs.PickReads.{get_picks, length_picks, place_below}
 use Rattle.vx_arrow_columns.proofs.Steps.{next_place}
 
@@ -36,14 +36,26 @@ item_at p q k j i h e =
     ap₂ (λ (n : ℕ) (r : ℕ). option_map (λ (x : ℕ). (p.offset + x) * p.width + r) (get_or q n None)) (div-mul-add k p.width j h) (mod-mul-add k p.width j h)
     ∙ ap (option_map (λ (x : ℕ). (p.offset + x) * p.width + j)) e
 
-fixed_cell : (p : Part) (q : List (Option ℕ)) (c new : List RowValue) (k i : ℕ) → AreAt true (fixed_items p q) c new → k < length q → get_or q k None ≡ Some i → i < p.len → (p.offset + p.len) * p.width ≤ length c
+-- all items of a list at a pick are there, if there are any
+items_there : (p : Part) (q : List (Option ℕ)) (n k i : ℕ) → AreWithin (fixed_items p q) n → k < length q → get_or q k None ≡ Some i → p.width ≤ n - (p.offset + i) * p.width
+items_there p q n k i within low e = elim (cases_eq p.width 0) as (λ _. p.width ≤ n - (p.offset + i) * p.width) [
+  | inl none ↦ omega arith
+  | inr some ↦
+      let w = p.width in
+      let end = next_place k (length q) w low in
+      let at : k * w + (w - 1) < length q * w = omega arith in
+      let last = within.below (k * w + (w - 1)) ((p.offset + i) * w + (w - 1)) (omega (arith, length_items p q)) (get_items p q (k * w + (w - 1)) at ∙ item_at p q k (w - 1) i (omega arith) e) in
+      omega arith
+]
+
+fixed_cell : (p : Part) (q : List (Option ℕ)) (c new : List RowValue) (k i : ℕ) → AreAt true (fixed_items p q) c new → k < length q → get_or q k None ≡ Some i
     → take p.width (drop (k * p.width) new) ≡ take p.width (drop ((p.offset + i) * p.width) c)
-fixed_cell p q c new k i are low e inside wide =
+fixed_cell p q c new k i are low e =
     let w = p.width in
     let items = fixed_items p q in
     let size : length new ≡ length q * w = are.len ∙ length_items p q in
     let end = next_place k (length q) w low in
-    let far : (p.offset + i) * w + w ≤ (p.offset + p.len) * w = next_place (p.offset + i) (p.offset + p.len) w (omega arith) in
+    let far = items_there p q (length c) k i are.within low e in
     let left : length (take w (drop (k * w) new)) ≡ w = length-take-le w (drop (k * w) new) (omega (arith, length-drop (k * w) new)) in
     let right : length (take w (drop ((p.offset + i) * w) c)) ≡ w = length-take-le w (drop ((p.offset + i) * w) c) (omega (arith, length-drop ((p.offset + i) * w) c)) in
     ext_get_or null _ _ (left ∙ sym right) (λ j h.
@@ -67,14 +79,11 @@ fixed_list_taken p q v o x s format r shows valid =
       len = refl;
       sound = subst (λ (n : ℕ). is_sound w (replicate n (length (inner p q).picks)) ≡ true) (sym one)
           (sound_from w (length (inner p q).picks ∷ []) (Some FixedList) format (placed w refl (few_picks p q.picks r.counted) valid) (and_from _ _ (eq-eqb _ _ one) (le-leb _ _ room)));
-      column = λ cs ds children own. picked_at (tags p.format) q.picks (column_of p cs) (column_of w ds) (same_column p w cs ds q.picks refl refl shows r.within (λ k n h e.
-          let old = children.old_len in
+      column = λ cs ds children. column_at p q.picks cs (column_of w ds) r.within (same_column p w cs ds q.picks refl refl shows r.within (λ k n h e.
           let back = place_some p (get_or q.picks k None) n e in
           let c = get_or cs 0 [] in
-          let fit = (and_parts (eqb p.children 1) _ (sound_fits p (map length cs) (Some FixedList) format own)).1 in
-          let wide : (p.offset + p.len) * p.width ≤ length c = subst (λ (m : ℕ). (p.offset + p.len) * p.width ≤ m) (get_or-map length cs 0 [] 0 (omega arith)) (leb-true _ _ fit) in
           ap (λ (y : Option Format). value_at y w ds k) format
-          ∙ ap (λ (l : List RowValue). list (row_values l)) (fixed_cell p q.picks c (get_or ds 0 []) k back.0 (subst (λ (l : List (Option ℕ)). AreAt true l c (get_or ds 0 [])) is (first_at (inner p q).picks p.children cs ds one children)) h back.1.0 (r.within.below k back.0 h back.1.0) wide ∙ ap (λ (m : ℕ). take p.width (drop (m * p.width) c)) (sym back.1.1))
+          ∙ ap (λ (l : List RowValue). list (row_values l)) (fixed_cell p q.picks c (get_or ds 0 []) k back.0 (subst (λ (l : List (Option ℕ)). AreAt true l c (get_or ds 0 [])) is (first_at (inner p q).picks p.children cs ds one children)) h back.1.0 ∙ ap (λ (m : ℕ). take p.width (drop (m * p.width) c)) (sym back.1.1))
           ∙ ap (λ (y : Option Format). value_at y p cs n) (sym format)));
     })
 

@@ -18,12 +18,16 @@ pub mod OwnTaken
 pub mod PickReads
 pub mod PickedTrees
 pub mod Plans
+pub mod ReadTrees
+pub mod RoomBytes
 pub mod Rooms
+pub mod RowBytes
 pub mod RowsAt
 pub mod RunRows
 pub mod SoundTrees
 pub mod SoundWalks
 pub mod Steps
+pub mod TakenBytes
 pub mod Takings
 pub mod Trees
 pub mod UnionRows

@@ -14,7 +14,7 @@ use Rattle.vx_arrow_columns.specs.declared.needs.Items.{Items}
 use Rattle.vx_arrow_columns.specs.declared.needs.Measure.{Measure}
 use Rattle.vx_arrow_image.specs.declared.image.Node as image
 use Rattle.vx_arrow_image.specs.Image.{Part, holds_starts, is_list_view, is_placed, limit_of, parts_of, has_child, holds_ids}
-use Rattle.vx_arrow_columns.specs.Measured.{AreBelow, AreDenseItems, AreItems, AreListed, AreMeasured, IsInner, IsLeaf, IsMeasured, IsTextLen, list_places, list_valid, moved}
+use Rattle.vx_arrow_columns.specs.Measured.{AreBelow, AreDenseItems, AreItems, AreListed, AreMeasured, IsInner, IsLeaf, IsMeasured, IsItemsLen, list_places, list_valid, moved}
 use Rattle.vx_arrow_columns.specs.Picks.{Picking, all_rows, below, counts_by, fixed_items, has_bits, inner, inner_nullable, inner_picks, inners_by, keeps, splits, items_of, picking_of, picks_of, values_len}
 use Rattle.vx_arrow_columns.specs.Planned.{child_lens, first_len, tree_lens}
 use Rattle.vx_arrow_columns.specs.Sound.{AsksBelow, HoldsBelow, IsSoundAt}
@@ -73,7 +73,7 @@ fixed_at p count n m format few placed held size small l ps vs add e within =
     fixed_measured p ps vs add n m format (omega arith) placed within held (size ∙ ap (λ (k : ℕ). k * p.width) (sym e)) small l
 
 pub text_measured : (z : Offsets) (p : Part) (ps vs : List ℕ) (add n : ℕ) (m : Measure) → p.format ≡ Some (Text z) → length ps < 2 ^ 60 → is_placed p ≡ true → AreWithin (picks_of ps vs add) p.len
-    → IsTextLen z p (picks_of ps vs add) n → IsLeaf p n m → IsMeasured p (picking_of ps vs add) m
+    → IsItemsLen z p (picks_of ps vs add) (length p.values) n → IsLeaf p n m → IsMeasured p (picking_of ps vs add) m
 text_measured z p ps vs add n m format few placed within t l =
     leaf_measured p (picking_of ps vs add) (Text z) n m format (readable p ps vs add (Text z) format few placed within (lt-ltb _ _ (subst (λ k. k < limit_of z) t.len t.small)) (l.leaf, t.cut)) t.len l
 

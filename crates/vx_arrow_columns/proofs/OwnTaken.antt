@@ -1,5 +1,5 @@
 -- What a node of each format takes by itself.
-use Rattle.std.proofs.Common.{zero, suc, ◌≡◌, ℕ, ◌+◌, ◌*◌, ◌^◌, ◌<◌, ◌≤◌, Bool, true, false, cond, List, [], ◌∷◌, length, get_or, take, map, Option, Some, None, ap, sym, ◌∙◌, refl, subst, arith, ltb, leb, eqb}
+use Rattle.std.proofs.Common.{zero, suc, ◌≡◌, ℕ, ◌+◌, ◌*◌, ◌^◌, ◌<◌, ◌≤◌, Bool, true, false, cond, List, [], ◌∷◌, length, get_or, take, map, Option, Some, None, ap, sym, ◌∙◌, refl, subst, arith, ltb, leb}
 use Rattle.std.specs.Prelude.{◌||◌, is_some, slice_range, replicate}
 use Rattle.std.specs.Option.{option_map}
 use Rattle.std.specs.List.{list_all}
@@ -9,16 +9,16 @@ use Rattle.vx_arrow_image.specs.declared.format.Format.{Format}
 use Rattle.vx_arrow_image.specs.declared.format.Format.TheVariants.{Nulls, Bits, Fixed, Text, List as Lists, FixedList, Struct, TextView, ListView, Union, DenseUnion}
 use Rattle.vx_arrow_image.specs.declared.format.Offsets.{Offsets}
 use Rattle.vx_arrow_image.specs.Rows.{RowValue, null, bit, bytes, list, fields, row_values, row_at, picked}
-use Rattle.vx_arrow_image.specs.Image.{Part, is_valid, fits, holds_valid, is_sound, value_at, row_of, column_of, offset_at, are_cut, size_of}
+use Rattle.vx_arrow_image.specs.Image.{Part, is_valid, fits, holds_valid, is_sound, limit_of, value_at, row_of, column_of, offset_at, size_of}
 use Rattle.vx_arrow_columns.specs.Picks.{Picking, bytes_for, has_bits, inner, inner_picks, inners, inners_by, is_counted, counts_by, items_len, items_of, picks_of, place_of, shows_by, shows_valid, tags}
 use Rattle.vx_arrow_columns.specs.Taken.{AreBits, AreCopied, AreOffsets, Holds, IsNullable, IsOwnTaken, IsReadable, ShowsRows, texts_of, AreAt}
 use Rattle.vx_arrow_columns.specs.Written.{new_part}
-use Rattle.vx_arrow_image.proofs.CutRows.{are_cut_at}
-use Rattle.vx_arrow_image.proofs.SoundNodes.{get_column, length_column, sound_fits, sound_from}
-use Rattle.vx_arrow_columns.proofs.Columns.{same_column, placed, holds_bits, place_some, place_between}
+use Rattle.vx_arrow_image.proofs.CutRows.{cut_up}
+use Rattle.vx_arrow_image.proofs.SoundNodes.{get_column, length_column, sound_from}
+use Rattle.vx_arrow_columns.proofs.Columns.{same_column, placed, holds_bits, place_some}
 use Rattle.vx_arrow_columns.proofs.Cuts.{items_count, list_cell, new_cuts, text_cell}
 use Rattle.vx_arrow_columns.proofs.Trees.{inners_leaf}
-use Rattle.vx_arrow_columns.proofs.RowsAt.{AreSameAt, first_at, picked_at, some_at}
+use Rattle.vx_arrow_columns.proofs.RowsAt.{AreSameAt, column_at, first_at, some_at}
 use Rattle.vx_arrow_columns.proofs.PickReads.{get_picks, length_picks, pick_there}
 
 -- ---- validity
@@ -80,7 +80,6 @@ pub record IsSameTaken (p w : Part) (q : Picking) : Type 0 where
   pub len : w.len ≡ length q.picks
   pub sound : is_sound w (replicate p.children (length (inner p q).picks)) ≡ true
   pub column : (cs ds : List (List RowValue)) → AreSameAt (inner p q).picks p.children cs ds
-      → is_sound p (map length cs) ≡ true
       → AreAt (tags p.format) q.picks (column_of p cs) (column_of w ds)
 
 same_at : (n j : ℕ) (i d : Picking) → j < n → get_or (replicate n i) j d ≡ i
@@ -100,13 +99,13 @@ own_taken p w q same t =
       children = t.children;
       len = t.len;
       sound = ap (λ (l : List Picking). is_sound w (map (λ (k : Picking). length k.picks) l)) same ∙ ap (is_sound w) (same_lens n i) ∙ t.sound;
-      column = λ cs ds a sound.
+      column = λ cs ds a.
           let size : length (inners p q) ≡ n = ap length same ∙ length-replicate n i in
           t.column cs ds (record {
             old_len = a.old_len ∙ size;
             new_len = a.new_len ∙ size;
             at = λ j h. subst (λ (x : Picking). AreAt true x.picks (get_or cs j []) (get_or ds j [])) (ap (λ (l : List Picking). get_or l j i) same ∙ same_at n j i i h) (a.at j i (omega arith));
-          }) sound;
+          });
     }
 
 no_children : (p : Part) → p.children ≡ 0 → (cs : List (List RowValue)) → length cs ≡ p.children → cs ≡ []
@@ -124,10 +123,10 @@ leaf_taken p q v o x s f format leaf r shows valid fit values =
       children = refl;
       len = refl;
       sound = subst (λ (n : ℕ). is_sound w (replicate n (length i.picks)) ≡ true) (sym leaf) (sound_from w [] (Some f) format (placed w refl (few_picks p q.picks r.counted) valid) fit);
-      column = λ cs ds at own.
+      column = λ cs ds at.
           let none : cs ≡ [] = no_children p leaf cs at.old_len in
           let new : ds ≡ [] = no_children p leaf ds at.new_len in
-          picked_at (tags p.format) q.picks (column_of p cs) (column_of w ds)
+          column_at p q.picks cs (column_of w ds) r.within
           (ap (column_of w) new
           ∙ same_column p w [] [] q.picks refl refl shows r.within (λ k n h e.
           ap (λ (y : Option Format). value_at y w [] k) format ∙ values k n h e ∙ ap (λ (y : Option Format). value_at y p [] n) (sym format))
@@ -181,7 +180,7 @@ nulls_taken p q o x s format r =
       children = refl;
       len = refl;
       sound = subst (λ (n : ℕ). is_sound w (replicate n (length i.picks)) ≡ true) (sym leaf) (sound_from w [] (Some Nulls) format (placed w refl (few_picks p q.picks r.counted) refl) (eq-eqb _ _ leaf));
-      column = λ cs ds at own. picked_at (tags p.format) q.picks (column_of p cs) (column_of w ds)
+      column = λ cs ds at. column_at p q.picks cs (column_of w ds) r.within
           (ext_get_or null (column_of w ds) (picked q.picks (column_of p cs)) (length_column w ds ∙ sym (length-map q.picks (row_at (column_of p cs)))) (λ k h.
           let below : k < length q.picks = omega (arith, length_column w ds) in
           get_column w ds k below ∙ null_row w ds (0 + k) format
@@ -216,7 +215,7 @@ struct_taken p q v o x s format r shows valid =
       children = refl;
       len = refl;
       sound = sound_from w _ (Some Struct) format (placed w refl (few_picks p q.picks r.counted) valid) (long_all (0 + length q.picks) (length (inner p q).picks) p.children (omega arith));
-      column = λ cs ds children own. picked_at (tags p.format) q.picks (column_of p cs) (column_of w ds) (same_column p w cs ds q.picks refl refl shows r.within (λ k n h e.
+      column = λ cs ds children. column_at p q.picks cs (column_of w ds) r.within (same_column p w cs ds q.picks refl refl shows r.within (λ k n h e.
           let back = place_some p (get_or q.picks k None) n e in
           let at : get_or (inner p q).picks k None ≡ Some n = ap (λ (l : List (Option ℕ)). get_or l k None) is ∙ get_or-map f q.picks k None None h ∙ ap f back.1.0 ∙ ap Some (sym back.1.1) in
           ap (λ (y : Option Format). value_at y w ds k) format
@@ -242,17 +241,14 @@ list_taken z p q v o x s format r shows valid long offs =
       sound = subst (λ (n : ℕ). is_sound w (replicate n (length (inner p q).picks)) ≡ true) (sym one)
           (sound_from w (length (inner p q).picks ∷ []) (Some (Lists z)) format (placed w refl (few_picks p q.picks r.counted) valid)
           (and_from _ _ (eq-eqb _ _ one) (new_cuts z p w q.picks (length (inner p q).picks) refl refl long offs small (omega arith))));
-      column = λ cs ds children own. picked_at (tags p.format) q.picks (column_of p cs) (column_of w ds) (same_column p w cs ds q.picks refl refl shows r.within (λ k i h e.
-          let inside = place_between p q.picks k i r.within h e in
+      column = λ cs ds children. column_at p q.picks cs (column_of w ds) r.within (same_column p w cs ds q.picks refl refl shows r.within (λ k i h e.
           let c = get_or cs 0 [] in
-          let old = children.old_len in
-          let all : get_or ds 0 [] ≡ picked (map Some places) c = some_at places c (get_or ds 0 []) (subst (λ (l : List (Option ℕ)). AreAt true l c (get_or ds 0 [])) is (first_at (inner p q).picks p.children cs ds one children)) in
-          let fit = (and_parts (eqb p.children 1) _ (sound_fits p (map length cs) (Some (Lists z)) format own)).1 in
-          let wide : get_or (map length cs) 0 0 ≡ length c = get_or-map length cs 0 [] 0 (omega arith) in
-          let cut = are_cut_at z p (length c) i (subst (λ (n : ℕ). are_cut z p n ≡ true) wide fit) inside.0 inside.1 in
+          let items : AreAt true (map Some places) c (get_or ds 0 []) = subst (λ (l : List (Option ℕ)). AreAt true l c (get_or ds 0 [])) is (first_at (inner p q).picks p.children cs ds one children) in
+          let all : get_or ds 0 [] ≡ picked (map Some places) c = some_at places c (get_or ds 0 []) items in
+          let up = cut_up z p (limit_of z) i (held.1.cut k i h e) in
           ap (λ (y : Option Format). value_at y w ds k) format
           ∙ ap (λ (l : List RowValue). list (row_values (slice_range l (offset_at z o k) (offset_at z o (k + 1))))) all
-          ∙ ap (λ (l : List RowValue). list (row_values l)) (list_cell z p q.picks c k i (offset_at z o k) (offset_at z o (k + 1)) h e cut (offs.ends k (omega arith)) (offs.ends (k + 1) (omega arith)))
+          ∙ ap (λ (l : List RowValue). list (row_values l)) (list_cell z p q.picks c k i (offset_at z o k) (offset_at z o (k + 1)) h e up items.within (offs.ends k (omega arith)) (offs.ends (k + 1) (omega arith)))
           ∙ ap (λ (y : Option Format). value_at y p cs i) (sym format)));
     })
 

@@ -1,14 +1,13 @@
 -- What picks are, and where their rows stand.
 use Rattle.std.proofs.Common.{map, ◌≡◌, ℕ, ◌+◌, ◌*◌, ◌^◌, ◌<◌, ◌≤◌, Bool, true, false, cond, List, [], ◌∷◌, length, nat_lt, zero, suc, get_or, Option, Some, None, arith, ap, ◌∙◌, sym, refl, inl, inr}
-use Rattle.std.specs.Prelude.{is_some}
 use Rattle.std.specs.List.{list_all}
 use Rattle.std.specs.Option.{option_map}
 use Rattle.std.proofs.lemmas.Bool.{cases_eq, and_parts, lt-ltb, ltb-true}
 use Rattle.std.proofs.lemmas.List.{ext_get_or, get_or-map, length-map}
 use Rattle.std.proofs.lemmas.List.FromFn.{length-map-range_with_len, get_or-map-range_with_len}
 use Rattle.vx_arrow_image.specs.Image.{Part, is_placed, is_valid, bit_of}
-use Rattle.vx_arrow_columns.specs.Picks.{picks_of, pick_at, place_of}
-use Rattle.vx_arrow_columns.specs.Taken.{AreWithin, ShowsRows, AreFull}
+use Rattle.vx_arrow_columns.specs.Picks.{picks_of, pick_at}
+use Rattle.vx_arrow_columns.specs.Taken.{AreWithin, AreFull}
 
 pub length_picks : (ps vs : List ℕ) (add : ℕ) → length (picks_of ps vs add) ≡ length ps
 unfolding picks_of
@@ -102,14 +101,6 @@ placed_end p h = ltb-true _ _ (and_parts _ _ h).0
 pub shows_bit : (v : List ℕ) (k : ℕ) → k < 8 * length v → is_valid v k ≡ bit_of v k
 shows_bit [] k h = absurd (omega arith)
 shows_bit (b ∷ bs) k h = refl
-
-pub shown_all : (p : Part) (ps vs : List ℕ) (add : ℕ) (out : List ℕ) (n : ℕ) → length ps ≤ n → length ps ≤ 8 * length out
-    → ((j : ℕ) → j < n → bit_of out j ≡ is_some (place_of p (pick_at ps vs add j))) → ShowsRows p (picks_of ps vs add) out
-shown_all p ps vs add out n far room h = record {
-  shows = λ k below.
-      let within : k < length ps = omega (arith, length_picks ps vs add) in
-      shows_bit out k (omega arith) ∙ h k (omega arith) ∙ ap (λ (o : Option ℕ). is_some (place_of p o)) (sym (get_picks ps vs add k within));
-}
 
 -- ---- places that are all there, and places further on
 

@@ -12,7 +12,6 @@ use Rattle.vx_arrow_image.specs.declared.format.Format.{Format}
 use Rattle.vx_arrow_image.specs.declared.format.Format.TheVariants.{DenseUnion, Fixed}
 use Rattle.vx_arrow_image.specs.declared.image.Node as image
 use Rattle.vx_arrow_image.specs.declared.image.Need.{Need}
-use Rattle.vx_arrow_image.specs.declared.image.Room.{Room}
 use Rattle.vx_arrow_columns.specs.declared.needs.Inner.TheVariants as inners
 use Rattle.vx_arrow_columns.specs.declared.needs.Items.{Items}
 use Rattle.vx_arrow_columns.specs.declared.needs.Measure.{Measure}
@@ -31,7 +30,6 @@ use Rattle.vx_arrow_columns.specs.Planned.{AreNexts, ArePicks, AreSplitJobs, Fit
 use Rattle.vx_arrow_columns.specs.Measured.{AreDenseItems, AreMeasured, IsInner, IsMeasured, list_places, list_valid, moved}
 use Rattle.vx_arrow_columns.specs.Sound.{AsksBelow}
 use Rattle.vx_arrow_columns.specs.Taken.{AreInside, AreWithin, IsOwnTaken, IsViewTaken, TakenAs}
-use Rattle.vx_arrow_columns.specs.Written.{IsRoomTaken}
 use Rattle.vx_arrow_columns.proofs.Measures.{none_inside, same_picking}
 use Rattle.vx_arrow_columns.proofs.PickReads.{length_picks, moved_picks}
 use Rattle.vx_arrow_columns.proofs.Trees.{belows_len, empty, same_belows}
@@ -149,9 +147,6 @@ own_measured p ps vs add own behind n m e is inside need =
     (record { read = record { within = r.within; readable = λ f. r; inside = λ f. inside }; need = need; children = is.children; asks = λ lens s. is.asks lens (s refl) })
 
 -- ---- rooms
-
-pub kept_room : (p : Part) (own : Picking) (r : Room) → own ≡ all_rows → IsRoomTaken p own r
-kept_room p own r kept = subst (λ (q : Picking). IsRoomTaken p q r) (sym kept) refl
 
 pub own_node : (p w : Part) (q : Picking) (f : Format) → p.format ≡ Some f → keeps (Some f) ≡ false → IsOwnTaken p w q → TakenAs false (keeps p.format) p w q
 own_node p w q f format e t = subst (λ (b : Bool). TakenAs false b p w q) (sym (ap keeps format ∙ e)) t

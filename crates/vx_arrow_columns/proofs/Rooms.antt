@@ -1,17 +1,11 @@
 -- What a room has, and what is written to it.
-use Rattle.std.proofs.Common.{◌≡◌, ℕ, ◌≤◌, Bool, true, false, cond, List, [], length, Option, Some, ap, sym, ◌∙◌, subst, arith, leb}
+use Rattle.std.proofs.Common.{◌≡◌, ℕ, ◌≤◌, Bool, true, false, cond, List, [], length, Option, ap, sym, ◌∙◌, subst, arith, leb}
 use Rattle.std.specs.Prelude.{◌&&◌, ◌||◌}
 use Rattle.std.proofs.lemmas.Bool.{and_parts, leb-true}
 use Rattle.vx_arrow_image.specs.declared.format.Format.{Format}
-use Rattle.vx_arrow_image.specs.Image.{Part, holds_valid, part_of}
-use Rattle.vx_arrow_image.specs.declared.image.Node as image
-use Rattle.vx_arrow_image.specs.declared.image.Room as rooms
-use Rattle.vx_arrow_columns.specs.declared.places.Picks as places
-use Rattle.vx_arrow_columns.specs.Asked.{the_picking, the_picks}
+use Rattle.vx_arrow_image.specs.Image.{Part, holds_valid}
 use Rattle.vx_arrow_columns.specs.Picks.{Picking, bytes_for, has_bits, offsets_len, picking_of, picks_of, shows_valid, sizes_len, values_len}
 use Rattle.vx_arrow_columns.specs.Taken.{IsNullable, ShowsRows}
-use Rattle.vx_arrow_columns.specs.Written.{HasValid, IsRoomed}
-use Rattle.vx_arrow_columns.proofs.PickReads.{length_picks}
 use Rattle.vx_arrow_columns.proofs.OwnTaken.{all_shown, nullable_shows, valid_holds}
 
 -- these lists are as large as the need
@@ -50,31 +44,15 @@ room_sizes p q f n e h = subst (λ (g : Option Format). sizes_len g p (length q.
 pub held_valid : (p : Part) (q : Picking) (v w : List ℕ) → (shows_valid p q ≡ true → bytes_for (length q.picks) ≤ length v) → length w ≡ length v → holds_valid (cond (shows_valid p q) w []) (length q.picks) ≡ true
 held_valid p q v w h e = valid_holds (shows_valid p q) w (length q.picks) (λ s. let room = h s in omega arith)
 
--- the rest of the room of a node whose validity is written
-pub record Left (f : Format) (n : image.Node) (q : places.Picks) (r : rooms.Room) : Type 0 where
-  pub count : length (the_picks q) ≡ length q.places.now
-  pub shows : ShowsRows (part_of n) (the_picks q) (cond (shows_valid (part_of n) (the_picking q)) r.valid.now [])
-  pub valid : holds_valid (cond (shows_valid (part_of n) (the_picking q)) r.valid.now []) (length (the_picks q)) ≡ true
-  pub offsets : offsets_len (Some f) (length q.places.now) ≤ length r.offsets.now
-  pub values : values_len (Some f) (part_of n) (the_picks q) ≤ length r.values.now
-  pub sizes : sizes_len (Some f) (part_of n) (length q.places.now) ≤ length r.sizes.now
+-- how long the lists of a node of a format are
+pub values_as : (p : Part) (q : Picking) (f : Option Format) (n : ℕ) → p.format ≡ f → n ≡ values_len p.format p q.picks → n ≡ values_len f p q.picks
+values_as p q f n e h = h ∙ ap (λ (g : Option Format). values_len g p q.picks) e
 
-pub left : (f : Format) (n : image.Node) (q : places.Picks) (old new : rooms.Room) → IsRoomed f n q old → HasValid (part_of n) (the_picking q) old new → Left f n q new
-left f n q old new a v =
-    let p = part_of n in
-    let k = the_picking q in
-    let r = roomy p k old.valid.now old.offsets.now old.values.now old.sizes.now a.room in
-    let count = length_picks q.places.now q.valid.now q.add in
-    record {
-      count = count;
-      shows = v.shows;
-      valid = held_valid p k old.valid.now new.valid.now r.valid v.long;
-      offsets = subst (λ (m : ℕ). offsets_len (Some f) m ≤ length new.offsets.now) count
-          (subst (λ (m : ℕ). offsets_len (Some f) (length (the_picks q)) ≤ m) (sym (ap (λ x. length x.now) v.offsets)) (room_offsets p k (Some f) _ a.format r.offsets));
-      values = subst (λ (m : ℕ). values_len (Some f) p (the_picks q) ≤ m) (sym (ap (λ x. length x.now) v.values)) (room_values p k (Some f) _ a.format r.values);
-      sizes = subst (λ (m : ℕ). sizes_len (Some f) p m ≤ length new.sizes.now) count
-          (subst (λ (m : ℕ). sizes_len (Some f) p (length (the_picks q)) ≤ m) (sym (ap (λ x. length x.now) v.sizes)) (room_sizes p k (Some f) _ a.format r.sizes));
-    }
+pub offsets_as : (p : Part) (q : Picking) (f : Option Format) (n : ℕ) → p.format ≡ f → n ≡ offsets_len p.format (length q.picks) → n ≡ offsets_len f (length q.picks)
+offsets_as p q f n e h = h ∙ ap (λ (g : Option Format). offsets_len g (length q.picks)) e
+
+pub sizes_as : (p : Part) (q : Picking) (f : Option Format) (n : ℕ) → p.format ≡ f → n ≡ sizes_len p.format p (length q.picks) → n ≡ sizes_len f p (length q.picks)
+sizes_as p q f n e h = h ∙ ap (λ (g : Option Format). sizes_len g p (length q.picks)) e
 
 pub nullable_by : (f g : Option Format) → f ≡ g → IsNullable g → IsNullable f
 nullable_by f g e h = subst IsNullable (sym e) h
@@ -85,7 +63,3 @@ pub none_shown : (p : Part) (ps vs : List ℕ) (add : ℕ) (v : List ℕ) → Is
 none_shown p ps vs add v some none =
     let bare = sym (nullable_shows p.format (has_bits p.valid || has_bits vs) some) ∙ none in
     subst (λ (b : Bool). ShowsRows p (picks_of ps vs add) (cond b v [])) (sym none) (all_shown p ps vs add bare)
-
-pub bits_shown : (p : Part) (ps vs : List ℕ) (add : ℕ) (v : List ℕ) → shows_valid p (picking_of ps vs add) ≡ true → ShowsRows p (picks_of ps vs add) v
-    → ShowsRows p (picks_of ps vs add) (cond (shows_valid p (picking_of ps vs add)) v [])
-bits_shown p ps vs add v some s = subst (λ (b : Bool). ShowsRows p (picks_of ps vs add) (cond b v [])) (sym some) s

@@ -1,18 +1,29 @@
 -- Rows at picks.
-use Rattle.std.proofs.Common.{◌≡◌, ℕ, ◌<◌, Bool, true, false, List, [], length, get_or, map, Option, Some, None, ap, sym, ◌∙◌, refl, arith}
+use Rattle.std.proofs.Common.{◌≡◌, ℕ, ◌<◌, Bool, true, false, List, [], length, get_or, map, Option, Some, None, ap, sym, ◌∙◌, refl, subst, arith}
 use Rattle.std.proofs.lemmas.List.{ext_get_or, get_or-map, length-map}
 use Rattle.vx_arrow_image.specs.Rows.{RowValue, null, row_at, picked}
-use Rattle.vx_arrow_columns.specs.Taken.{AreAt, AreFull}
+use Rattle.vx_arrow_image.specs.Image.{Part, column_of}
+use Rattle.vx_arrow_columns.specs.Picks.{tags}
+use Rattle.vx_arrow_columns.specs.Taken.{AreAt, AreFull, AreWithin}
+use Rattle.vx_arrow_image.proofs.SoundNodes.{length_column}
 
-pub picked_at : (b : Bool) (q : List (Option ℕ)) (rows new : List RowValue) → new ≡ picked q rows → AreAt b q rows new
-picked_at b q rows new e = record {
+pub picked_at : (b : Bool) (q : List (Option ℕ)) (rows new : List RowValue) → AreWithin q (length rows) → new ≡ picked q rows → AreAt b q rows new
+picked_at b q rows new w e = record {
   len = ap length e ∙ length-map q (row_at rows);
+  within = w;
   at = λ k i h at. ap (λ (l : List RowValue). get_or l k null) e ∙ get_or-map (row_at rows) q k None null h ∙ ap (row_at rows) at;
   nulls = λ loose k h at. ap (λ (l : List RowValue). get_or l k null) e ∙ get_or-map (row_at rows) q k None null h ∙ ap (row_at rows) at;
 }
 
 pub looser : (b : Bool) (q : List (Option ℕ)) (rows new : List RowValue) → AreAt b q rows new → AreAt true q rows new
-looser b q rows new h = record { len = h.len; at = h.at; nulls = λ e. absurd (let f : true ≡ false = e in cc) }
+looser b q rows new h = record { len = h.len; within = h.within; at = h.at; nulls = λ e. absurd (let f : true ≡ false = e in cc) }
+
+-- picks within a node's rows
+pub column_within : (p : Part) (q : List (Option ℕ)) (cs : List (List RowValue)) → AreWithin q p.len → AreWithin q (length (column_of p cs))
+column_within p q cs w = subst (AreWithin q) (sym (length_column p cs)) w
+
+pub column_at : (p : Part) (q : List (Option ℕ)) (cs : List (List RowValue)) (new : List RowValue) → AreWithin q p.len → new ≡ picked q (column_of p cs) → AreAt (tags p.format) q (column_of p cs) new
+column_at p q cs new w e = picked_at (tags p.format) q (column_of p cs) new (column_within p q cs w) e
 
 row_exact : (b : Bool) (q : List (Option ℕ)) (rows new : List RowValue) (k : ℕ) (o : Option ℕ) → AreAt b q rows new → (b ≡ true → AreFull q) → k < length q → get_or q k None ≡ o → get_or new k null ≡ row_at rows o
 row_exact b q rows new k (Some i) a full h e = a.at k i h e

@@ -10,7 +10,7 @@ use Rattle.vx_arrow_columns.specs.Picks.{Picking, all_rows, belows, inner, inner
 use Rattle.vx_arrow_columns.specs.Planned.{are_trees, child_lens, tree_lens}
 use Rattle.vx_arrow_columns.specs.Taken.{AreInside, IsOwnTaken, IsViewTaken, TakenAs}
 use Rattle.vx_arrow_image.proofs.SoundNodes.{length_column, with_part_is}
-use Rattle.vx_arrow_columns.proofs.Trees.{inners_same, kept_same, AllTaken, KeptSound, NoneKept, behind, belows_len, first_inside, first_sound, kept_behind, lens_len, lens_more, none_kept}
+use Rattle.vx_arrow_columns.proofs.Trees.{inners_same, kept_same, AllTaken, KeptSound, NoneKept, behind, belows_len, first_inside, first_sound, kept_behind, lens_len, lens_more, next_trees, none_kept}
 
 -- ---- how many rows are written
 
@@ -66,9 +66,6 @@ length_at : (qs : List Picking) (ls : List ℕ) → length (lens_at qs ls) ≡ l
 unfolding lens_at
 length_at [] ls = refl
 length_at (q ∷ qs) ls = omega (arith, length_at qs (drop 1 ls))
-
-next_trees : (is qs : List Picking) (n : ℕ) (ps : List Part) → length is ≡ n → are_trees ps (n + length qs) ≡ true → are_trees ps (length (is ++ qs)) ≡ true
-next_trees is qs n ps e t = ap (are_trees ps) (length-append is qs ∙ ap (λ m. m + length qs) e) ∙ t
 
 pub record Sound (ws : List Part) (qs : List Picking) (ls : List ℕ) : Type 0 where
   pub columns : List (List RowValue)

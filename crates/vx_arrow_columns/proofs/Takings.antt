@@ -12,16 +12,18 @@ use Rattle.vx_arrow_columns.specs.declared.plan.Plan as plans
 use Rattle.vx_arrow_image.specs.declared.refusal.Refusal.{Refusal}
 use Rattle.vx_arrow_image.specs.declared.refusal.Refusal.TheVariants as refusals
 use Rattle.vx_arrow_columns.specs.Answer.{AreKeptSound, AreTaken, HaveRoom, IsPlanRefusal, IsRefusalBy, IsShort, MeansPicked}
-use Rattle.vx_arrow_image.specs.Rows.{RowValue}
+use Rattle.vx_arrow_image.specs.Rows.{RowValue, picked}
 use Rattle.vx_arrow_image.specs.Image.{Part, column_in, part_of, parts_of}
 use Rattle.vx_arrow_columns.specs.Picks.{Picking, need_of, picking_of, pickings, is_union}
 use Rattle.vx_arrow_columns.specs.Planned.{Fits, IsPlanned, IsRead, are_trees, first_len, picking_in}
+use Rattle.vx_arrow_columns.specs.Read.{rows_read}
 use Rattle.vx_arrow_columns.specs.Taken.{AreWithin, IsTaken, IsReadable, AreFull}
 use Rattle.vx_arrow_columns.specs.Written.{has_room, written, written_by, written_part}
 use Rattle.vx_arrow_columns.proofs.Plans.{planned_at, planned_need}
-use Rattle.vx_arrow_columns.proofs.PickedTrees.{picked_column}
+use Rattle.vx_arrow_columns.proofs.PickedTrees.{rows_picked}
+use Rattle.vx_arrow_columns.proofs.ReadTrees.{kept_sound, rows_first, rows_len, rows_meant}
 use Rattle.vx_arrow_columns.proofs.SoundTrees.{sound_column}
-use Rattle.vx_arrow_columns.proofs.Trees.{AllTaken, column_len}
+use Rattle.vx_arrow_columns.proofs.Trees.{AllTaken}
 
 -- the rooms of the nodes before i are written, and the others are large enough
 pub record TakenTo (parts : List Part) (qs : List Picking) (needs : List Need) (i : ℕ) (rooms : List Room) : Type 0 where
@@ -150,27 +152,35 @@ node_taken nodes ps vs plan rooms room i d own planned o in_rooms taken t =
 -- ---- the whole table
 
 every : (parts : List Part) (q : Picking) (rooms : List Room) → AreTaken parts q rooms → AllTaken parts (written parts q rooms) (q ∷ [])
-every parts q rooms a = record { len = a.len; taken = a.taken; inside = λ k d r h own. let read = a.read k d r h in read.inside own }
-
-pub rows_first : (nodes : List image.Node) (rows : List RowValue) → column_in (parts_of nodes) ≡ Some rows → length rows ≡ first_len nodes
-rows_first [] rows e = absurd (let f : None ≡ Some rows = e in cc)
-rows_first (n ∷ nodes) rows e = column_len (part_of n) (parts_of nodes) rows e
-
-pub means_picked : (nodes : List image.Node) (q : Picking) (rooms : List Room) → q.kept ≡ false → (is_union (parts_of nodes) ≡ true → AreFull q.picks) → AreTaken (parts_of nodes) q rooms → AreWithin q.picks (first_len nodes) → MeansPicked (parts_of nodes) q rooms
-means_picked nodes q rooms own full a w = record {
-  within = λ rows e. subst (λ (n : ℕ). AreWithin q.picks n) (sym (rows_first nodes rows e)) w;
-  picked = λ rows e. picked_column (parts_of nodes) (written (parts_of nodes) q rooms) q rows own full e (every (parts_of nodes) q rooms a);
-}
+every parts q rooms a = record { len = a.len; within = λ k d r h. let read = a.read k d r h in read.within; taken = a.taken; inside = λ k d r h own. let read = a.read k d r h in read.inside own }
 
 pub means_some : (parts : List Part) (q : Picking) (rooms : List Room) → AreTaken parts q rooms → AreKeptSound parts q → IsSome (column_in (written parts q rooms))
 means_some parts q rooms a kept = let there = sound_column parts (written parts q rooms) q a.tree (every parts q rooms a) (record { sound = kept.sound }) in ap is_some there.1
+
+pub means_picked : (nodes : List image.Node) (q : Picking) (rooms : List Room) → q.kept ≡ false → (is_union (parts_of nodes) ≡ true → AreFull q.picks) → AreTaken (parts_of nodes) q rooms → AreWithin q.picks (first_len nodes) → MeansPicked (parts_of nodes) q rooms
+means_picked nodes q rooms own full a w =
+    let parts = parts_of nodes in
+    let new = written parts q rooms in
+    let all = every parts q rooms a in
+    let rows = rows_picked parts new q own full a.tree all in
+    let read : AreKeptSound parts q → column_in new ≡ Some (picked q.picks (rows_read parts)) = λ kept.
+    let there = sound_column parts new q a.tree all (record { sound = kept.sound }) in
+    there.1 ∙ ap Some (sym (rows_meant new there.0 there.1) ∙ rows) in
+    record {
+      reach = subst (AreWithin q.picks) (sym (rows_len nodes)) w;
+      rows = rows;
+      read = read;
+      meant = rows_meant parts;
+      within = λ rows e. subst (AreWithin q.picks) (sym (rows_first nodes rows e)) w;
+      picked = λ rows e. read (kept_sound parts q rows e) ∙ ap (λ (l : List RowValue). Some (picked q.picks l)) (rows_meant parts rows e);
+    }
 
 -- ---- refusals
 
 -- what a plan's refusal says, whatever is short
 pub refused_by : (nodes : List image.Node) (q : Picking) (short : ℕ → Type 0) (refusal : Refusal) → IsPlanRefusal (parts_of nodes) q (first_len nodes) refusal → IsRefusalBy (parts_of nodes) q short refusal
 refused_by nodes q short (refusals.NoMeaning node lack) h = h
-refused_by nodes q short refusals.Beyond h = λ rows e w. h (subst (λ (n : ℕ). AreWithin q.picks n) (rows_first nodes rows e) w)
+refused_by nodes q short refusals.Beyond h = λ w. h (subst (AreWithin q.picks) (rows_len nodes) w)
 refused_by nodes q short refusals.NullPick h = h
 refused_by nodes q short (refusals.Room node) h = absurd h
 refused_by nodes q short (refusals.Overflow node) h = h

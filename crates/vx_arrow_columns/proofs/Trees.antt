@@ -1,5 +1,5 @@
 -- Tables of whole trees whose nodes are each taken.
-use Rattle.std.proofs.Common.{zero, suc, ◌≡◌, ℕ, ◌+◌, ◌<◌, ◌≤◌, Bool, true, false, cond, List, [], ◌∷◌, ◌++◌, length, get_or, take, drop, map, Option, Some, None, ap, ap₂, sym, ◌∙◌, refl, subst, arith}
+use Rattle.std.proofs.Common.{zero, suc, ◌≡◌, ℕ, ◌+◌, ◌<◌, ◌≤◌, Bool, true, false, cond, List, [], ◌∷◌, ◌++◌, length, get_or, take, drop, map, Option, Some, None, ap, ap₂, sym, ◌∙◌, refl, subst, arith, length-append}
 use Rattle.std.specs.Prelude.{replicate}
 use Rattle.std.specs.List.{range_with_len}
 use Rattle.std.specs.Option.{option_and_then}
@@ -9,10 +9,10 @@ use Rattle.vx_arrow_image.specs.declared.format.Format.TheVariants.{DenseUnion}
 use Rattle.std.proofs.lemmas.Bool.{and_parts, leb-true, eqb-true}
 use Rattle.std.proofs.lemmas.List.{length-drop, length-replicate, take-map, drop-map}
 use Rattle.vx_arrow_image.specs.Rows.{RowValue}
-use Rattle.vx_arrow_image.specs.Image.{Part, is_sound, column_of, with_part, columns_in, column_in, only}
+use Rattle.vx_arrow_image.specs.Image.{Part, is_sound, column_of, with_part, columns_in, only}
 use Rattle.vx_arrow_columns.specs.Picks.{Picking, all_rows, below, belows, dense_picking, inner, inners, inners_by, keeps, pickings, splits}
 use Rattle.vx_arrow_columns.specs.Planned.{are_trees, child_lens, tree_lens}
-use Rattle.vx_arrow_columns.specs.Taken.{AreInside, IsTaken}
+use Rattle.vx_arrow_columns.specs.Taken.{AreInside, AreWithin, IsTaken}
 use Rattle.vx_arrow_image.proofs.SoundNodes.{length_column}
 
 -- a node before columns that it goes with
@@ -66,6 +66,10 @@ lens_len (p ∷ ps) (suc n) t = ap length (lens_more p ps) ∙ omega (arith, len
 empty_lens : (cs : List (List RowValue)) → [] ≡ cs → map length cs ≡ tree_lens []
 unfolding tree_lens
 empty_lens cs e = ap (map length) (sym e)
+
+-- the children of a node are the first trees behind it
+pub next_trees : (is qs : List Picking) (n : ℕ) (ps : List Part) → length is ≡ n → are_trees ps (n + length qs) ≡ true → are_trees ps (length (is ++ qs)) ≡ true
+next_trees is qs n ps e t = ap (are_trees ps) (length-append is qs ∙ ap (λ m. m + length qs) e) ∙ t
 
 -- the columns that a table means have as many rows
 pub columns_lens : (ps : List Part) (cs : List (List RowValue)) → columns_in ps ≡ Some cs → map length cs ≡ tree_lens ps
@@ -154,6 +158,7 @@ none_kept p q e j d h = go (splits p.format) refl
 
 pub record AllTaken (ps ws : List Part) (qs : List Picking) : Type 0 where
   pub len : length ws ≡ length ps
+  pub within : (k : ℕ) (d : Part) (r : Picking) → k < length ps → AreWithin (get_or (pickings ps qs) k r).picks (get_or ps k d).len
   pub taken : (k : ℕ) (d e : Part) (r : Picking) → k < length ps → IsTaken (get_or ps k d) (get_or ws k e) (get_or (pickings ps qs) k r)
   pub inside : (k : ℕ) (d : Part) (r : Picking) → k < length ps → (get_or (pickings ps qs) k r).kept ≡ false
       → AreInside (get_or ps k d) (get_or (pickings ps qs) k r).picks (child_lens (get_or ps k d) (drop (k + 1) ps))
@@ -171,6 +176,7 @@ drop_first p ps = ap (λ n. drop n (p ∷ ps)) (let e : 0 + 1 ≡ suc 0 = omega 
 pub behind : (p w : Part) (ps ws : List Part) (q : Picking) (qs : List Picking) → AllTaken (p ∷ ps) (w ∷ ws) (q ∷ qs) → AllTaken ps ws (belows p q ++ qs)
 behind p w ps ws q qs a = record {
   len = omega (arith, a.len);
+  within = λ k d r h. a.within (suc k) d r (omega arith);
   taken = λ k d e r h. a.taken (suc k) d e r (omega arith);
   inside = λ k d r h own.
       let next = belows p q ++ qs in
@@ -196,9 +202,3 @@ only_some None rows e = absurd (let f : None ≡ Some rows = e in cc)
 only_some (Some []) rows e = absurd (let f : None ≡ Some rows = e in cc)
 only_some (Some (c ∷ [])) rows e = ap (λ (l : List RowValue). Some (l ∷ [])) (let f : Some c ≡ Some rows = e in cc)
 only_some (Some (c ∷ (d ∷ cs))) rows e = absurd (let f : None ≡ Some rows = e in cc)
-
--- how many rows it has
-pub column_len : (p : Part) (ps : List Part) (rows : List RowValue) → column_in (p ∷ ps) ≡ Some rows → length rows ≡ p.len
-column_len p ps rows e =
-    let op = opened p ps (rows ∷ []) (only_some (columns_in (p ∷ ps)) rows e) in
-    ap (λ (l : List (List RowValue)). length (get_or l 0 [])) op.joined.whole ∙ length_column p (take p.children op.columns)

@@ -16,7 +16,7 @@ use Rattle.vx_arrow_columns.specs.Picks.{Picking, inners_by, inner, inner_picks,
 use Rattle.vx_arrow_columns.specs.Taken.{AreTagged, IsOwnTaken, IsReadable, id_at}
 use Rattle.vx_arrow_columns.specs.Written.{new_part}
 use Rattle.vx_arrow_columns.proofs.Columns.{placed}
-use Rattle.vx_arrow_columns.proofs.RowsAt.{AreSameAt}
+use Rattle.vx_arrow_columns.proofs.RowsAt.{AreSameAt, column_within}
 use Rattle.vx_arrow_columns.proofs.OwnTaken.{few_picks, held_by, long_all, own_taken}
 
 pub no_bits : (v : List ℕ) → length v ≡ 0 → v ≡ []
@@ -77,8 +77,9 @@ union_taken p q o x s format r room_x room_s are ids =
           let at : k < length q.picks = omega arith in
           child_here w k (id_at p (get_or q.picks k None)) (ids_of p) (are.ids k at) ids
           (id_known p q.picks k (get_or q.picks k None) has.some has.ids has.bare (λ i e. held.1.all k i at e))))));
-      column = λ cs ds at own. record {
+      column = λ cs ds at. record {
         len = length_column w ds;
+        within = column_within p q.picks cs r.within;
         at = λ k i h e.
             let low = r.within.below k i h e in
             let pick : get_or (inner p q).picks k None ≡ Some (p.offset + i) = ap (λ (l : List (Option ℕ)). get_or l k None) is ∙ get_or-map f q.picks k None None h ∙ ap f e in

@@ -9,6 +9,7 @@ use Rattle.vx_arrow_image.specs.Image.{Part, column_in, is_sound}
 use Rattle.vx_arrow_columns.specs.Picks.{Picking, needs_of, pickings, is_union}
 use Rattle.vx_arrow_columns.specs.Planned.{IsRead, are_trees, child_lens}
 use Rattle.vx_arrow_columns.specs.Reached.{AreSoundAt, IsUncounted}
+use Rattle.vx_arrow_columns.specs.Read.{rows_read}
 use Rattle.vx_arrow_columns.specs.Taken.{AreFull, AreWithin, IsTaken}
 use Rattle.vx_arrow_columns.specs.Written.{has_room, written}
 
@@ -41,8 +42,14 @@ pub record AreKeptSound (parts : List Part) (q : Picking) : Type 0 where
       → is_sound (slice_index_or parts k d)
       (child_lens (slice_index_or parts k d) (drop (k + 1) parts)) ≡ true
 
--- where the table means a column, the rooms mean its rows at the picks
+-- the rooms read the rows at the picks of what the table's lists read, whatever its other rows are;
+-- they mean these rows if what is kept is sound; where the table means a column, these are its rows
 pub record MeansPicked (parts : List Part) (q : Picking) (rooms : List Room) : Type 0 where
+  pub reach : AreWithin q.picks (length (rows_read parts))
+  pub rows : rows_read (written parts q rooms) ≡ picked q.picks (rows_read parts)
+  pub read : AreKeptSound parts q
+      → column_in (written parts q rooms) ≡ Some (picked q.picks (rows_read parts))
+  pub meant : (rows : List RowValue) → column_in parts ≡ Some rows → rows_read parts ≡ rows
   pub within : (rows : List RowValue) → column_in parts ≡ Some rows
       → AreWithin q.picks (length rows)
   pub picked : (rows : List RowValue) → column_in parts ≡ Some rows
@@ -63,23 +70,34 @@ IsPlanRefusal parts q n refusals.NoMemory = ⊤
 -- the same of a column, and what `Room` says of a node
 abbrev pub IsRefusalBy : List Part → Picking → (ℕ → Type 0) → Refusal → Type 0
 IsRefusalBy parts q short (refusals.NoMeaning node lack) = AreSoundAt parts q → ⊥
-IsRefusalBy parts q short refusals.Beyond =
-    (rows : List RowValue) → column_in parts ≡ Some rows → AreWithin q.picks (length rows) → ⊥
+IsRefusalBy parts q short refusals.Beyond = AreWithin q.picks (length (rows_read parts)) → ⊥
 IsRefusalBy parts q short refusals.NullPick = (is_union parts ≡ true) × (AreFull q.picks → ⊥)
 IsRefusalBy parts q short (refusals.Room node) = short node
 IsRefusalBy parts q short (refusals.Overflow node) = IsUncounted parts q node
 IsRefusalBy parts q short refusals.NoMemory = ⊤
 
--- why nothing is taken: `Room` comes only where there are not as many rooms as nodes, or the one
--- that is named is smaller than its need
-abbrev pub IsRefusal : List Part → Picking → List Room → Refusal → Type 0
-IsRefusal parts q rooms =
-    IsRefusalBy parts q (λ node. length rooms ≡ length parts
-    → IsShort (needs_of parts q) rooms node)
+-- there are not as many needs or rooms as nodes, and no node is named, or the one that is has a room
+-- that is smaller than its need
+pub record IsRoomless (parts : List Part) (q : Picking) (needs : ℕ) (rooms : List Room) (node : ℕ)
+    : Type 0 where
+  pub count : (needs ≡ length parts → length rooms ≡ length parts → ⊥) → node ≡ length parts
+  pub short : needs ≡ length parts → length rooms ≡ length parts
+      → IsShort (needs_of parts q) rooms node
 
--- why no needs are told: `Room` comes only where there are not as many of them as nodes
-abbrev pub IsNeedRefusal : List Part → Picking → ℕ → Refusal → Type 0
-IsNeedRefusal parts q count = IsRefusalBy parts q (λ node. count ≡ length parts → ⊥)
+-- why nothing is taken
+abbrev pub IsRefusal : List Part → Picking → ℕ → List Room → Refusal → Type 0
+IsRefusal parts q needs rooms = IsRefusalBy parts q (IsRoomless parts q needs rooms)
+
+-- the needs after a refusal: what the rows take where a room is too small, and else as they were
+abbrev pub AreTold : List Part → Picking → List Need → List Need → ℕ → Refusal → Type 0
+AreTold parts q old new rooms (refusals.NoMeaning node lack) = new ≡ old
+AreTold parts q old new rooms refusals.Beyond = new ≡ old
+AreTold parts q old new rooms refusals.NullPick = new ≡ old
+AreTold parts q old new rooms (refusals.Room node) =
+    (length old ≡ length parts → rooms ≡ length parts → new ≡ needs_of parts q)
+    × ((length old ≡ length parts → rooms ≡ length parts → ⊥) → new ≡ old)
+AreTold parts q old new rooms (refusals.Overflow node) = new ≡ old
+AreTold parts q old new rooms refusals.NoMemory = new ≡ old
 
 -- `NoMeaning` comes only where the table means no column
 abbrev pub IsUnmeant : Option (List RowValue) → Refusal → Type 0

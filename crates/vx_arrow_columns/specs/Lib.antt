@@ -1,8 +1,10 @@
 pub mod Answer
 pub mod Asked
+pub mod Bytes
 pub mod Measured
 pub mod Picks
 pub mod Planned
+pub mod Read
 pub mod Reached
 pub mod Sound
 pub mod Taken

@@ -26,9 +26,10 @@ abbrev pub list_valid : lists.Places → List ℕ
 list_valid (variants.Each l) = l.valid.items
 list_valid (variants.Runs rs) = []
 
--- n bytes are the texts at picks, and can be counted
-pub record IsTextLen (z : Offsets) (p : Part) (q : List (Option ℕ)) (n : ℕ) : Type 0 where
-  pub cut : AreCutAt z p q (length p.values)
+-- n are the items at picks, or the bytes of the texts, cut from so many, and can be counted
+pub record IsItemsLen (z : Offsets) (p : Part) (q : List (Option ℕ)) (count n : ℕ)
+    : Type 0 where
+  pub cut : AreCutAt z p q count
   pub len : n ≡ items_len z p q
   pub small : n < limit_of z
 

@@ -147,9 +147,11 @@ pub record AreDense (p : Part) (q : List (Option ℕ)) (n : ℕ) (out : List ℕ
   pub starts : (k : ℕ) → k < n → offset_at Short out k
       ≡ length (dense_rows p (take k q) (dense_child p (slice_index_or q k None)))
 
--- these are a column's rows at picks: null where a pick is, or any there, where they are loose
+-- these are a column's rows at picks, each of which is null or one of the rows: null where a pick
+-- is, or any there, where they are loose
 pub record AreAt (loose : Bool) (q : List (Option ℕ)) (rows new : List RowValue) : Type 0 where
   pub len : length new ≡ length q
+  pub within : AreWithin q (length rows)
   pub at : (k i : ℕ) → k < length q → slice_index_or q k None ≡ Some i
       → slice_index_or new k null ≡ slice_index_or rows i null
   pub nulls : loose ≡ false → (k : ℕ) → k < length q → slice_index_or q k None ≡ None
@@ -166,13 +168,12 @@ pub record AreChildrenAt (qs : List Picking) (cs ds : List (List RowValue)) : Ty
 pub record AreFull (q : List (Option ℕ)) : Type 0 where
   pub full : (k : ℕ) → k < length q → slice_index_or q k None ≡ None → ⊥
 
--- w has the rows of p at the picks, where its children have theirs
+-- w has the rows of p at the picks, where its children have theirs, whatever its other rows are
 pub record IsOwnTaken (p w : Part) (q : Picking) : Type 0 where
   pub children : w.children ≡ p.children
   pub len : w.len ≡ length q.picks
   pub sound : is_sound w (map (λ (i : Picking). length i.picks) (inners p q)) ≡ true
   pub column : (cs ds : List (List RowValue)) → AreChildrenAt (inners p q) cs ds
-      → is_sound p (map length cs) ≡ true
       → AreAt (tags p.format) q.picks (column_of p cs) (column_of w ds)
 
 -- w has the rows of p at the picks over the very children of p

@@ -1,5 +1,5 @@
 -- What is written to the caller's rooms.
-use Rattle.std.specs.Prelude.{◌≡◌, ◌≢◌, ℕ, ◌<◌, Bool, ◌&&◌, true, nat_le, length, List, Some, [], ◌∷◌, if◌then◌else◌, slice_index_or}
+use Rattle.std.specs.Prelude.{◌≡◌, ◌≢◌, ℕ, ◌<◌, Bool, ◌&&◌, true, nat_le, length, List, Some, [], ◌∷◌, if◌then◌else◌, is_some, slice_index_or}
 use Rattle.vx_arrow_image.specs.declared.format.Format.{Format}
 use Rattle.vx_arrow_image.specs.declared.format.Offsets.{Offsets}
 use Rattle.vx_arrow_image.specs.declared.image.Need as needed
@@ -7,9 +7,10 @@ use Rattle.vx_arrow_image.specs.declared.image.Node as image
 use Rattle.vx_arrow_image.specs.declared.image.Room as rooms
 use Rattle.vx_arrow_image.specs.Image.{Part, bit_of, format_in, offset_at, part_of}
 use Rattle.vx_arrow_columns.specs.declared.places.Picks as places
-use Rattle.vx_arrow_columns.specs.Asked.{the_picking, the_picks}
-use Rattle.vx_arrow_columns.specs.Picks.{Picking, need_of, shows_valid, pickings}
-use Rattle.vx_arrow_columns.specs.Taken.{IsOwnTaken, IsReadable, IsTaken, IsViewTaken, ShowsRows}
+use Rattle.vx_arrow_columns.specs.Asked.{the_picks}
+use Rattle.vx_arrow_columns.specs.Bytes.{AreBitsOf}
+use Rattle.vx_arrow_columns.specs.Picks.{Picking, shows_valid, pickings}
+use Rattle.vx_arrow_columns.specs.Taken.{IsReadable, IsTaken, ShowsRows}
 
 -- bit j is this one, and the others are as they were
 pub record PutsBit (old new : List ℕ) (j : ℕ) (bit : Bool) : Type 0 where
@@ -76,30 +77,15 @@ pub record KeepLists (old new : List rooms.Room) : Type 0 where
   pub each : (k : ℕ) (d : rooms.Room)
       → KeepsLists (slice_index_or old k d) (slice_index_or new k d)
 
--- validity is written where the rows have some, and what is written besides stands as it was
-pub record HasValid (p : Part) (q : Picking) (old new : rooms.Room) : Type 0 where
-  pub shows : ShowsRows p q.picks (if shows_valid p q then new.valid.now else [])
-  pub long : length new.valid.now ≡ length old.valid.now
-  pub offsets : new.offsets ≡ old.offsets
-  pub values : new.values ≡ old.values
-  pub sizes : new.sizes ≡ old.sizes
+-- validity says which rows are there, bit by bit where it is written; else there is none
+pub record HasValid (p : Part) (q : Picking) (v : List ℕ) : Type 0 where
+  pub shows : ShowsRows p q.picks v
+  pub bits : shows_valid p q ≡ true → AreBitsOf is_some p q.picks v
 
--- the rows of a node at picks can be read, and the room is as large as their need
-pub record IsRoomed (f : Format) (n : image.Node) (q : places.Picks) (r : rooms.Room)
-    : Type 0 where
+-- the rows of a node of this format at picks can be read
+pub record IsWritable (f : Format) (n : image.Node) (q : places.Picks) : Type 0 where
   pub format : format_in n.format ≡ Some f
   pub readable : IsReadable (part_of n) (the_picks q)
-  pub room : has_room (need_of (part_of n) (the_picking q)) r ≡ true
-
--- the room has the node's rows at picks, where its children's rooms have theirs
-abbrev pub IsNodeTaken : image.Node → places.Picks → rooms.Room → Type 0
-IsNodeTaken n q room =
-    IsOwnTaken (part_of n) (own_part (part_of n) (the_picking q) room) (the_picking q)
-
--- the same over the very children of the node
-abbrev pub IsViewNodeTaken : image.Node → places.Picks → rooms.Room → Type 0
-IsViewNodeTaken n q room =
-    IsViewTaken (part_of n) (own_part (part_of n) (the_picking q) room) (the_picking q)
 
 -- the room has the rows of a node as they are taken
 abbrev pub IsRoomTaken : Part → Picking → rooms.Room → Type 0

@@ -1,14 +1,15 @@
 //! Columns in the caller's memory, in Arrow's format, and their rows at picks.
 //!
 //! A column is a table of [`Node`]s with borrowed bytes, each before its children. [`check`] tests
-//! a whole table, [`sizes`] tells what the rows at some picks need, and [`take`] writes them, in
-//! the format that the column has.
+//! a whole table, and [`take`] writes the rows at some picks and what they need, in the format that
+//! the column has. [`guess`] says beforehand about how much that is.
 #![tactic(auto)]
 
 mod copying;
 mod dense;
 mod faults;
 mod fixed_lists;
+mod guessing;
 mod kept;
 mod measuring;
 mod needs;
@@ -19,5 +20,6 @@ mod taking;
 mod unions;
 mod writing;
 
-pub use crate::taking::{sizes, take};
+pub use crate::guessing::guess;
+pub use crate::taking::take;
 pub use vx_arrow_image::{Lack, Need, Node, Refusal, Room, check};

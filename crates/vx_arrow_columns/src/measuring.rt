@@ -11,7 +11,7 @@ use crate::dense::measure_dense;
 use crate::faults::Fault;
 use crate::fixed_lists::fixed_items;
 use crate::kept::{first_len, test_inside};
-use crate::needs::{Inner, Items, Measure, is_plain, list_places, list_runs, tested, text_len};
+use crate::needs::{Inner, Items, Measure, count_items, is_plain, list_places, list_runs, tested};
 use crate::places::{Picks, Places};
 use crate::unions::measure_union;
 use std::alloc::Global;
@@ -82,7 +82,7 @@ fn measure_text(size: Offsets, node: &Node, picks: &Picks) -> Result<Measure, Fa
     ensures measured { IfOk result (IsMeasured (part_of node.now) (the_picking picks.now)) }
     ensures fault { IfErr result (IsOwnFault (part_of node.now) (the_picks picks.now)) }
 {
-    let len = text_len(size, node, picks)?;
+    let len = count_items(size, node, picks, node.values.len() as u64)?;
     leaf(node, len)
 }
 

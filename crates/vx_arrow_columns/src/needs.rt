@@ -2,11 +2,11 @@
 ghost use Rattle.std.specs.Prelude.{◌≡◌, ◌+◌, ◌<◌, ◌≤◌, IfErr, IfOk, OnOk, Some, [], false, length, true};
 ghost use Rattle.vx_arrow_image.specs.Image.{format_in, holds_offsets, is_cut, is_placed, limit_of, offset_at, part_of};
 ghost use Rattle.vx_arrow_columns.specs.Asked.{IsAsked, the_picking, the_picks};
-ghost use Rattle.vx_arrow_columns.specs.Measured.{AreItems, IsTextLen, list_places, list_valid};
+ghost use Rattle.vx_arrow_columns.specs.Measured.{AreItems, IsItemsLen, list_places, list_valid};
 ghost use Rattle.vx_arrow_columns.specs.Picks.{items_len, shows_valid};
 ghost use Rattle.vx_arrow_columns.specs.Planned.{IsPlain};
 ghost use Rattle.vx_arrow_columns.specs.Sound.{IsFault, IsTestFault};
-ghost use Rattle.vx_arrow_columns.specs.Taken.{AreCutAt};
+ghost use Rattle.vx_arrow_columns.specs.Taken.{AreCutAt, AreWithin};
 
 use crate::faults::Fault;
 use crate::places::{Picks, PlaceList, Places, place};
@@ -115,14 +115,20 @@ fn tested_cut(size: Offsets, node: &Node, i: usize, count: u64) -> Result<Cut, F
     Ok(cut)
 }
 
-/// How many bytes the texts at the picks have together. It isn't inlined, so that its loop has the
-/// registers.
+/// How many items the lists at the picks have together, or bytes the texts, which are cut from so
+/// many. It isn't inlined, so that its loop has the registers.
 #[inline(never)]
-pub(crate) fn text_len(size: Offsets, node: &Node, picks: &Picks) -> Result<u64, Fault>
-    requires { IsAsked (Format.Text size) node.now picks.now }
-    ensures len { IfOk result (IsTextLen size (part_of node.now) (the_picks picks.now)) }
+pub(crate) fn count_items(
+    size: Offsets,
+    node: &Node,
+    picks: &Picks,
+    items: u64,
+) -> Result<u64, Fault>
+    requires placed { is_placed (part_of node.now) ≡ true }
+    requires within { AreWithin (the_picks picks.now) node.now.len }
+    ensures len { IfOk result (IsItemsLen size (part_of node.now) (the_picks picks.now) items) }
     ensures fault { IfErr result (IsFault
-        (AreCutAt size (part_of node.now) (the_picks picks.now) (length node.now.values.now) → ⊥)
+        (AreCutAt size (part_of node.now) (the_picks picks.now) items → ⊥)
         (limit_of size ≤ items_len size (part_of node.now) (the_picks picks.now))) }
 {
     if !holds_offsets(size, node) {
@@ -131,7 +137,7 @@ pub(crate) fn text_len(size: Offsets, node: &Node, picks: &Picks) -> Result<u64,
     let mut total = 0;
     for k in 0..picks.places.len() {
         if let Some(i) = place(node, picks, k) {
-            let cut = tested_cut(size, node, i, node.values.len() as u64)?;
+            let cut = tested_cut(size, node, i, items)?;
             total += cut.end - cut.start;
             if total >= size.limit() {
                 return Err(Fault::Overflow);
@@ -190,7 +196,8 @@ pub(crate) fn list_runs(
     })
 }
 
-/// The places of the items of the lists at the picks, one by one. It isn't inlined either.
+/// The places of the items of the lists at the picks, one by one. They are counted first, so that
+/// no memory is asked for where they are too many. It isn't inlined either.
 #[inline(never)]
 pub(crate) fn list_places(
     alloc: Global,
@@ -209,10 +216,10 @@ pub(crate) fn list_places(
 {
     let own = *node;
     let all = *picks;
-    if !holds_offsets(size, node) {
-        return Err(Fault::Lacks(Lack::Offsets));
-    }
-    let mut places = Vec::new(alloc);
+    let count = count_items(size, node, picks, items)?;
+    let Ok(mut places) = Vec::with_capacity(alloc, count as usize) else {
+        return Err(Fault::NoMemory);
+    };
     let mut last = 0;
     let mut total = 0;
     for k in 0..all.places.len() {

@@ -1,11 +1,13 @@
 //! The rows of one node at picks, written.
-ghost use Rattle.std.specs.Prelude.{◌≡◌, ◌+◌, ◌*◌, ◌^◌, ◌<◌, ◌≤◌, ◌/◌, ◌++◌, Some, [], is_some, length, take, true};
-ghost use Rattle.vx_arrow_image.specs.Image.{format_in, holds_offsets, is_placed, limit_of, part_of, size_of};
+ghost use Rattle.std.specs.Prelude.{◌≡◌, ℕ, List, ◌+◌, ◌*◌, ◌<◌, ◌≤◌, is_some, length, take, true};
+ghost use Rattle.vx_arrow_image.specs.Image.{format_in, is_placed, is_valid, limit_of, part_of, size_of};
 ghost use Rattle.vx_arrow_columns.specs.Asked.{the_picking, the_picks, the_run_picking, the_run_picks};
-ghost use Rattle.vx_arrow_columns.specs.Picks.{items_len, need_of, pick_at, picking_of, picks_of, place_of};
+ghost use Rattle.vx_arrow_columns.specs.Bytes.{AreBitsOf, AreBytes};
+ghost use Rattle.vx_arrow_columns.specs.Picks.{items_len, need_of, pick_at, place_of};
 ghost use Rattle.vx_arrow_columns.specs.Planned.{IsPlain};
-ghost use Rattle.vx_arrow_columns.specs.Taken.{AreBits, AreCutAt, AreOffsets, AreOrdered, AreWithin, IsByteOf, IsNullable, IsReadable, ShowsRows, bit_in, texts_of};
-ghost use Rattle.vx_arrow_columns.specs.Written.{HasValid, IsNodeTaken, IsRoomTaken, IsRoomed, IsViewNodeTaken, KeepsLists, has_room};
+ghost use Rattle.vx_arrow_columns.specs.Taken.{AreCutAt, AreOffsets, AreOrdered, AreWithin, IsByteOf, IsNullable, IsReadable, bit_in, texts_of};
+ghost use Rattle.vx_arrow_columns.specs.Written.{HasValid, IsWritable};
+ghost use Rattle.vx_arrow_zeros.specs.Zeros.{ClearsRows, holds_bits};
 
 use crate::copying::{write_fixed, write_numbers, write_records, write_runs};
 use crate::dense::write_starts;
@@ -13,7 +15,8 @@ use crate::needs::shows_valid;
 use crate::places::{Picks, RunPicks, place};
 use crate::puts::put_offset;
 use crate::unions::write_ids;
-use vx_arrow_image::{Format, Node, Offsets, Room, bit_is, cut_at, format_of};
+use vx_arrow_image::{Format, Node, Offsets, bit_is, cut_at, format_of};
+use vx_arrow_zeros::clear_rows;
 use vx_runs::{put_bytes, put_run, with_bit};
 
 // A bit for each of so many picks from pick `first` on: whether its row is there.
@@ -38,7 +41,7 @@ fn write_valid(node: &Node, picks: &Picks, out: &mut [u8])
     requires placed { is_placed (part_of node.now) ≡ true }
     requires within { AreWithin (the_picks picks.now) node.now.len }
     requires room { length picks.now.places.now ≤ 8 * length out.old }
-    ensures { ShowsRows (part_of node.now) (the_picks picks.now) out.new }
+    ensures { AreBitsOf is_some (part_of node.now) (the_picks picks.now) out.new }
 {
     let own = *node;
     let all = *picks;
@@ -79,8 +82,8 @@ fn write_bits(node: &Node, picks: &Picks, out: &mut [u8])
     requires placed { is_placed (part_of node.now) ≡ true }
     requires within { AreWithin (the_picks picks.now) node.now.len }
     requires room { length picks.now.places.now ≤ 8 * length out.old }
-    ensures { AreBits (part_of node.now) (the_picks picks.now)
-        (length picks.now.places.now) out.new }
+    ensures { AreBitsOf (bit_in node.now.values.now) (part_of node.now) (the_picks picks.now)
+        out.new }
 {
     let own = *node;
     let all = *picks;
@@ -145,151 +148,243 @@ fn write_texts(size: Offsets, node: &Node, picks: &Picks, out: &mut [u8])
 }
 
 // Writes validity, where the rows have some.
-fn write_valid_of(node: &Node, picks: &Picks, room: &mut Room)
+fn write_valid_of(node: &Node, picks: &Picks, valid: &mut [u8])
     requires placed { is_placed (part_of node.now) ≡ true }
     requires within { AreWithin (the_picks picks.now) node.now.len }
     requires nullable { IsNullable (format_in node.now.format) }
-    requires room { has_room (need_of (part_of node.now) (the_picking picks.now)) room.old ≡ true }
-    ensures valid { HasValid (part_of node.now) (the_picking picks.now) room.old room.new }
-    ensures lists { KeepsLists room.old room.new }
+    requires room { length valid.old
+        ≡ (need_of (part_of node.now) (the_picking picks.now)).valid }
+    ensures { HasValid (part_of node.now) (the_picking picks.now) valid.new }
 {
     if !shows_valid(node, picks) {
         return;
     }
-    write_valid(node, picks, room.valid);
+    write_valid(node, picks, valid);
+}
+
+// Writes zeros over the rows, of so many bytes each, whose bit of validity is clear.
+fn clear_nulls(picks: &Picks, width: u64, valid: &[u8], out: &mut [u8])
+    requires valid { holds_bits (length valid.now) (length picks.now.places.now) ≡ true }
+    requires room { length picks.now.places.now * width ≤ length out.old }
+    ensures { ClearsRows (is_valid valid.now) 0 (length picks.now.places.now) width
+        out.old out.new }
+{
+    clear_rows(valid, picks.places.len(), width as usize, out);
 }
 
 // Writes bits.
-fn write_bits_node(node: &Node, picks: &Picks, room: &mut Room)
-    requires { IsRoomed Format.Bits node.now picks.now room.old }
-    ensures taken { IsNodeTaken node.now picks.now room.new }
-    ensures lists { KeepsLists room.old room.new }
+fn write_bits_node(node: &Node, picks: &Picks, valid: &mut [u8], values: &mut [u8])
+    requires format { IsWritable Format.Bits node.now picks.now }
+    requires valid { length valid.old
+        ≡ (need_of (part_of node.now) (the_picking picks.now)).valid }
+    requires values { length values.old
+        ≡ (need_of (part_of node.now) (the_picking picks.now)).values }
+    ensures { (o s : List ℕ) → AreBytes (part_of node.now) (the_picking picks.now)
+        valid.new o values.new s }
 {
-    write_valid_of(node, picks, room);
-    write_bits(node, picks, room.values);
+    write_valid_of(node, picks, valid);
+    write_bits(node, picks, values);
 }
 
-// Writes values of a fixed width.
-fn write_fixed_node(node: &Node, picks: &Picks, room: &mut Room)
-    requires { IsRoomed Format.Fixed node.now picks.now room.old }
-    ensures taken { IsNodeTaken node.now picks.now room.new }
-    ensures lists { KeepsLists room.old room.new }
+// Writes values of a fixed width, and zeros under nulls.
+fn write_fixed_node(node: &Node, picks: &Picks, valid: &mut [u8], values: &mut [u8])
+    requires format { IsWritable Format.Fixed node.now picks.now }
+    requires valid { length valid.old
+        ≡ (need_of (part_of node.now) (the_picking picks.now)).valid }
+    requires values { length values.old
+        ≡ (need_of (part_of node.now) (the_picking picks.now)).values }
+    ensures { (o s : List ℕ) → AreBytes (part_of node.now) (the_picking picks.now)
+        valid.new o values.new s }
 {
-    write_valid_of(node, picks, room);
-    write_fixed(node, picks, room.values);
+    write_valid_of(node, picks, valid);
+    write_fixed(node, picks, values);
+    clear_nulls(picks, node.width, valid, values);
 }
 
 // Writes texts.
-fn write_text_node(size: Offsets, node: &Node, picks: &Picks, room: &mut Room)
-    requires { IsRoomed (Format.Text size) node.now picks.now room.old }
-    ensures taken { IsNodeTaken node.now picks.now room.new }
-    ensures lists { KeepsLists room.old room.new }
+fn write_text_node(
+    size: Offsets,
+    node: &Node,
+    picks: &Picks,
+    valid: &mut [u8],
+    offsets: &mut [u8],
+    values: &mut [u8],
+)
+    requires format { IsWritable (Format.Text size) node.now picks.now }
+    requires valid { length valid.old
+        ≡ (need_of (part_of node.now) (the_picking picks.now)).valid }
+    requires offsets { length offsets.old
+        ≡ (need_of (part_of node.now) (the_picking picks.now)).offsets }
+    requires values { length values.old
+        ≡ (need_of (part_of node.now) (the_picking picks.now)).values }
+    ensures { (s : List ℕ) → AreBytes (part_of node.now) (the_picking picks.now)
+        valid.new offsets.new values.new s }
 {
-    write_valid_of(node, picks, room);
-    write_offsets(size, node, picks, room.offsets);
-    write_texts(size, node, picks, room.values);
+    write_valid_of(node, picks, valid);
+    write_offsets(size, node, picks, offsets);
+    write_texts(size, node, picks, values);
 }
 
 // Writes the lists' own part: where the items of each begin and end.
-fn write_list_node(size: Offsets, node: &Node, picks: &Picks, room: &mut Room)
-    requires { IsRoomed (Format.List size) node.now picks.now room.old }
-    ensures taken { IsNodeTaken node.now picks.now room.new }
-    ensures lists { KeepsLists room.old room.new }
+fn write_list_node(size: Offsets, node: &Node, picks: &Picks, valid: &mut [u8], offsets: &mut [u8])
+    requires format { IsWritable (Format.List size) node.now picks.now }
+    requires valid { length valid.old
+        ≡ (need_of (part_of node.now) (the_picking picks.now)).valid }
+    requires offsets { length offsets.old
+        ≡ (need_of (part_of node.now) (the_picking picks.now)).offsets }
+    ensures { (x s : List ℕ) → AreBytes (part_of node.now) (the_picking picks.now)
+        valid.new offsets.new x s }
 {
-    write_valid_of(node, picks, room);
-    write_offsets(size, node, picks, room.offsets);
+    write_valid_of(node, picks, valid);
+    write_offsets(size, node, picks, offsets);
 }
 
 // Writes a struct's own part.
-fn write_struct_node(node: &Node, picks: &Picks, room: &mut Room)
-    requires { IsRoomed Format.Struct node.now picks.now room.old }
-    ensures taken { IsNodeTaken node.now picks.now room.new }
-    ensures lists { KeepsLists room.old room.new }
+fn write_struct_node(node: &Node, picks: &Picks, valid: &mut [u8])
+    requires format { IsWritable Format.Struct node.now picks.now }
+    requires valid { length valid.old
+        ≡ (need_of (part_of node.now) (the_picking picks.now)).valid }
+    ensures { (o x s : List ℕ) → AreBytes (part_of node.now) (the_picking picks.now)
+        valid.new o x s }
 {
-    write_valid_of(node, picks, room);
+    write_valid_of(node, picks, valid);
 }
 
 // Writes the own part of lists of a fixed size.
-fn write_fixed_list_node(node: &Node, picks: &Picks, room: &mut Room)
-    requires { IsRoomed Format.FixedList node.now picks.now room.old }
-    ensures taken { IsNodeTaken node.now picks.now room.new }
-    ensures lists { KeepsLists room.old room.new }
+fn write_fixed_list_node(node: &Node, picks: &Picks, valid: &mut [u8])
+    requires format { IsWritable Format.FixedList node.now picks.now }
+    requires valid { length valid.old
+        ≡ (need_of (part_of node.now) (the_picking picks.now)).valid }
+    ensures { (o x s : List ℕ) → AreBytes (part_of node.now) (the_picking picks.now)
+        valid.new o x s }
 {
-    write_valid_of(node, picks, room);
+    write_valid_of(node, picks, valid);
 }
 
-// Writes views of texts.
-fn write_text_view_node(node: &Node, picks: &Picks, room: &mut Room)
-    requires { IsRoomed Format.TextView node.now picks.now room.old }
-    ensures taken { IsViewNodeTaken node.now picks.now room.new }
-    ensures lists { KeepsLists room.old room.new }
+// Writes views of texts, and zeros under nulls.
+fn write_text_view_node(node: &Node, picks: &Picks, valid: &mut [u8], values: &mut [u8])
+    requires format { IsWritable Format.TextView node.now picks.now }
+    requires valid { length valid.old
+        ≡ (need_of (part_of node.now) (the_picking picks.now)).valid }
+    requires values { length values.old
+        ≡ (need_of (part_of node.now) (the_picking picks.now)).values }
+    ensures { (o s : List ℕ) → AreBytes (part_of node.now) (the_picking picks.now)
+        valid.new o values.new s }
 {
-    write_valid_of(node, picks, room);
-    write_records::<16>(node.values, node, picks, room.values);
+    write_valid_of(node, picks, valid);
+    write_records::<16>(node.values, node, picks, values);
+    clear_nulls(picks, 16, valid, values);
 }
 
-// Writes views of lists.
-fn write_list_view_node(size: Offsets, node: &Node, picks: &Picks, room: &mut Room)
-    requires { IsRoomed (Format.ListView size) node.now picks.now room.old }
-    ensures taken { IsViewNodeTaken node.now picks.now room.new }
-    ensures lists { KeepsLists room.old room.new }
+// Writes views of lists, and zeros under nulls.
+fn write_list_view_node(
+    size: Offsets,
+    node: &Node,
+    picks: &Picks,
+    valid: &mut [u8],
+    offsets: &mut [u8],
+    sizes: &mut [u8],
+)
+    requires format { IsWritable (Format.ListView size) node.now picks.now }
+    requires valid { length valid.old
+        ≡ (need_of (part_of node.now) (the_picking picks.now)).valid }
+    requires offsets { length offsets.old
+        ≡ (need_of (part_of node.now) (the_picking picks.now)).offsets }
+    requires sizes { length sizes.old
+        ≡ (need_of (part_of node.now) (the_picking picks.now)).sizes }
+    ensures { (x : List ℕ) → AreBytes (part_of node.now) (the_picking picks.now)
+        valid.new offsets.new x sizes.new }
 {
-    write_valid_of(node, picks, room);
-    write_numbers(size, node.offsets, node, picks, room.offsets);
-    write_numbers(size, node.sizes, node, picks, room.sizes);
+    write_valid_of(node, picks, valid);
+    write_numbers(size, node.offsets, node, picks, offsets);
+    clear_nulls(picks, size.size(), valid, offsets);
+    write_numbers(size, node.sizes, node, picks, sizes);
+    clear_nulls(picks, size.size(), valid, sizes);
 }
 
 // Writes a union's own part: the ids of the rows, and those of the children.
-fn write_union_node(node: &Node, picks: &Picks, room: &mut Room)
-    requires { IsRoomed Format.Union node.now picks.now room.old }
-    ensures taken { IsNodeTaken node.now picks.now room.new }
-    ensures lists { KeepsLists room.old room.new }
+fn write_union_node(node: &Node, picks: &Picks, values: &mut [u8], sizes: &mut [u8])
+    requires format { IsWritable Format.Union node.now picks.now }
+    requires values { length values.old
+        ≡ (need_of (part_of node.now) (the_picking picks.now)).values }
+    requires sizes { length sizes.old
+        ≡ (need_of (part_of node.now) (the_picking picks.now)).sizes }
+    ensures { (v o : List ℕ) → AreBytes (part_of node.now) (the_picking picks.now)
+        v o values.new sizes.new }
 {
-    write_ids(node, picks, room.values);
-    put_bytes(room.sizes, 0, &node.sizes[..node.children as usize]);
+    write_ids(node, picks, values);
+    put_bytes(sizes, 0, &node.sizes[..node.children as usize]);
 }
 
 // Writes a dense union's own part: the ids of the rows, where these stand, and the children's ids.
-fn write_dense_node(node: &Node, picks: &Picks, room: &mut Room)
-    requires { IsRoomed Format.DenseUnion node.now picks.now room.old }
-    ensures taken { IsNodeTaken node.now picks.now room.new }
-    ensures lists { KeepsLists room.old room.new }
+fn write_dense_node(
+    node: &Node,
+    picks: &Picks,
+    offsets: &mut [u8],
+    values: &mut [u8],
+    sizes: &mut [u8],
+)
+    requires format { IsWritable Format.DenseUnion node.now picks.now }
+    requires offsets { length offsets.old
+        ≡ (need_of (part_of node.now) (the_picking picks.now)).offsets }
+    requires values { length values.old
+        ≡ (need_of (part_of node.now) (the_picking picks.now)).values }
+    requires sizes { length sizes.old
+        ≡ (need_of (part_of node.now) (the_picking picks.now)).sizes }
+    ensures { (v : List ℕ) → AreBytes (part_of node.now) (the_picking picks.now)
+        v offsets.new values.new sizes.new }
 {
-    write_ids(node, picks, room.values);
-    write_starts(node, picks, room.offsets);
-    put_bytes(room.sizes, 0, &node.sizes[..node.children as usize]);
+    write_ids(node, picks, values);
+    write_starts(node, picks, offsets);
+    put_bytes(sizes, 0, &node.sizes[..node.children as usize]);
 }
 
 /// Writes the rows at runs of places, where they are of a fixed width and none is null.
-pub(crate) fn write_plain(node: &Node, picks: &RunPicks, room: &mut Room)
+pub(crate) fn write_plain(node: &Node, picks: &RunPicks, values: &mut [u8])
     requires plain { IsPlain (part_of node.now) }
     requires readable { IsReadable (part_of node.now) (the_run_picks picks.now) }
-    requires room { has_room (need_of (part_of node.now) (the_run_picking picks.now)) room.old
-        ≡ true }
-    ensures taken { IsRoomTaken (part_of node.now) (the_run_picking picks.now) room.new }
-    ensures lists { KeepsLists room.old room.new }
+    requires values { length values.old
+        ≡ (need_of (part_of node.now) (the_run_picking picks.now)).values }
+    ensures { (v o s : List ℕ) → AreBytes (part_of node.now) (the_run_picking picks.now)
+        v o values.new s }
 {
-    write_runs(node, picks, room.values);
+    write_runs(node, picks, values);
 }
 
-/// Writes what a node's own lists hold of its rows at picks.
-pub(crate) fn write_node(node: &Node, picks: &Picks, room: &mut Room)
+/// Writes what a node's own lists hold of its rows at picks. They have as many bytes as these need.
+pub(crate) fn write_node(
+    node: &Node,
+    picks: &Picks,
+    valid: &mut [u8],
+    offsets: &mut [u8],
+    values: &mut [u8],
+    sizes: &mut [u8],
+)
     requires readable { IsReadable (part_of node.now) (the_picks picks.now) }
-    requires room { has_room (need_of (part_of node.now) (the_picking picks.now)) room.old ≡ true }
-    ensures taken { IsRoomTaken (part_of node.now) (the_picking picks.now) room.new }
-    ensures lists { KeepsLists room.old room.new }
+    requires valid { length valid.old
+        ≡ (need_of (part_of node.now) (the_picking picks.now)).valid }
+    requires offsets { length offsets.old
+        ≡ (need_of (part_of node.now) (the_picking picks.now)).offsets }
+    requires values { length values.old
+        ≡ (need_of (part_of node.now) (the_picking picks.now)).values }
+    requires sizes { length sizes.old
+        ≡ (need_of (part_of node.now) (the_picking picks.now)).sizes }
+    ensures { AreBytes (part_of node.now) (the_picking picks.now)
+        valid.new offsets.new values.new sizes.new }
 {
     match format_of(node.format) {
-        Some(Format::Bits) => write_bits_node(node, picks, room),
-        Some(Format::Fixed) => write_fixed_node(node, picks, room),
-        Some(Format::Text(size)) => write_text_node(size, node, picks, room),
-        Some(Format::Struct) => write_struct_node(node, picks, room),
-        Some(Format::List(size)) => write_list_node(size, node, picks, room),
-        Some(Format::FixedList) => write_fixed_list_node(node, picks, room),
-        Some(Format::TextView) => write_text_view_node(node, picks, room),
-        Some(Format::ListView(size)) => write_list_view_node(size, node, picks, room),
-        Some(Format::Union) => write_union_node(node, picks, room),
-        Some(Format::DenseUnion) => write_dense_node(node, picks, room),
+        Some(Format::Bits) => write_bits_node(node, picks, valid, values),
+        Some(Format::Fixed) => write_fixed_node(node, picks, valid, values),
+        Some(Format::Text(size)) => write_text_node(size, node, picks, valid, offsets, values),
+        Some(Format::Struct) => write_struct_node(node, picks, valid),
+        Some(Format::List(size)) => write_list_node(size, node, picks, valid, offsets),
+        Some(Format::FixedList) => write_fixed_list_node(node, picks, valid),
+        Some(Format::TextView) => write_text_view_node(node, picks, valid, values),
+        Some(Format::ListView(size)) => {
+            write_list_view_node(size, node, picks, valid, offsets, sizes);
+        }
+        Some(Format::Union) => write_union_node(node, picks, values, sizes),
+        Some(Format::DenseUnion) => write_dense_node(node, picks, offsets, values, sizes),
         Some(Format::Nulls) => {}
         None => {}
     }

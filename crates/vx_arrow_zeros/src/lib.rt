@@ -5,4 +5,5 @@ mod bits;
 mod rows;
 mod zeros;
 
+pub use crate::rows::clear_rows;
 pub use crate::zeros::clear_nulls;

@@ -167,8 +167,8 @@ fn clear_by_width(valid: &[u8], rows: usize, width: usize, values: &mut [u8])
     }
 }
 
-/// Writes zeros over the values of null rows.
-pub(crate) fn clear_rows(valid: &[u8], rows: usize, width: usize, values: &mut [u8])
+/// Writes zeros over the rows whose bit of validity is clear. Without validity no row is null.
+pub fn clear_rows(valid: &[u8], rows: usize, width: usize, values: &mut [u8])
     requires valid { holds_bits (length valid.now) rows ≡ true }
     requires values { rows * width ≤ length values.old }
     ensures { ClearsRows (is_valid valid.now) 0 rows width values.old values.new }

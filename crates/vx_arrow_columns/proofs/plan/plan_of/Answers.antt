@@ -11,7 +11,7 @@ use Rattle.vx_arrow_image.proofs.SoundNodes.{zero_node}
 use Rattle.vx_arrow_columns.proofs.Meant.{no_column}
 use Rattle.vx_arrow_columns.proofs.Plans.{first_is, first_was, plan_done}
 use Rattle.vx_arrow_columns.proofs.SoundWalks.{first_fits, next_fits, no_memory, no_nodes, visit_refused}
-use Rattle.vx_arrow_columns.proofs.Takings.{rows_first}
+use Rattle.vx_arrow_columns.proofs.ReadTrees.{rows_first}
 use Rattle.vx_arrow_columns.proofs.Walks.{first_walk}
 use Rattle.vx_arrow_columns.proofs.plan.plan_of.Goals as goal
 

@@ -1,17 +1,18 @@
--- What the format's lemma asks for.
-use Rattle.std.proofs.Common.{ℕ, sym, subst, arith}
+-- The bits of the rows.
+use Rattle.std.proofs.Common.{Some, arith}
+use Rattle.vx_arrow_image.specs.declared.format.Format.TheVariants.{Bits}
 use Rattle.vx_arrow_image.specs.Image.{part_of}
-use Rattle.vx_arrow_columns.specs.Asked.{the_picking, the_picks}
-use Rattle.vx_arrow_columns.specs.Taken.{AreBits}
-use Rattle.vx_arrow_columns.proofs.OwnTaken.{bits_taken}
-use Rattle.vx_arrow_columns.proofs.Rooms.{left}
+use Rattle.vx_arrow_columns.specs.Asked.{the_picking}
+use Rattle.vx_arrow_columns.proofs.PickReads.{length_picks}
+use Rattle.vx_arrow_columns.proofs.Rooms.{values_as}
+use Rattle.vx_arrow_columns.proofs.RowBytes.{bytes_by}
 use Rattle.vx_arrow_columns.proofs.writing.write_bits_node.Goals as goal
 
 pub write_bits-requires-clause-room : goal.write_bits-requires-clause-room
-write_bits-requires-clause-room c = let l = left _ _ _ _ _ c.requires c.write_valid_of.ensures.valid in omega (arith, l.values, l.count)
+write_bits-requires-clause-room c =
+    let ps = c.args.picks.now in
+    let long = values_as (part_of c.args.node.now) (the_picking ps) (Some Bits) _ c.requires.format.format c.requires.values in
+    omega (arith, long, length_picks ps.places.now ps.valid.now ps.add)
 
-pub returns-clause-taken : goal.returns-clause-taken
-returns-clause-taken c =
-    let l = left _ _ _ _ _ c.requires c.write_valid_of.ensures.valid in
-    bits_taken (part_of c.args.node.now) (the_picking c.args.picks.now) _ _ _ _ c.requires.format c.requires.readable l.shows l.valid (omega (arith, c.write_bits.auto.out, l.values))
-    (subst (λ (n : ℕ). AreBits (part_of c.args.node.now) (the_picks c.args.picks.now) n c.write_bits.new.out) (sym l.count) c.write_bits.ensures)
+pub returns : goal.returns
+returns c o s = bytes_by (Some Bits) (part_of c.args.node.now) (the_picking c.args.picks.now) _ o _ s c.requires.format.format c.write_valid_of.ensures.bits tt c.write_bits.ensures tt

@@ -1,9 +1,10 @@
--- What the format's lemma asks for.
+-- No lists but validity.
+use Rattle.std.proofs.Common.{Some}
+use Rattle.vx_arrow_image.specs.declared.format.Format.TheVariants.{FixedList}
 use Rattle.vx_arrow_image.specs.Image.{part_of}
 use Rattle.vx_arrow_columns.specs.Asked.{the_picking}
-use Rattle.vx_arrow_columns.proofs.FixedLists.{fixed_list_taken}
-use Rattle.vx_arrow_columns.proofs.Rooms.{left}
+use Rattle.vx_arrow_columns.proofs.RowBytes.{bytes_by}
 use Rattle.vx_arrow_columns.proofs.writing.write_fixed_list_node.Goals as goal
 
-pub returns-clause-taken : goal.returns-clause-taken
-returns-clause-taken c = let l = left _ _ _ _ _ c.requires c.write_valid_of.ensures.valid in fixed_list_taken (part_of c.args.node.now) (the_picking c.args.picks.now) _ _ _ _ c.requires.format c.requires.readable l.shows l.valid
+pub returns : goal.returns
+returns c o x s = bytes_by (Some FixedList) (part_of c.args.node.now) (the_picking c.args.picks.now) _ o x s c.requires.format.format c.write_valid_of.ensures.bits tt tt tt

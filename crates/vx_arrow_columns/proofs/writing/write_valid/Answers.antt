@@ -1,7 +1,8 @@
 -- One byte more, and the last one.
-use Rattle.std.proofs.Common.{◌*◌, ◌/◌, ◌%◌, length, length-set, refl, arith}
+use Rattle.std.proofs.Common.{refl, arith}
+use Rattle.std.specs.Prelude.{is_some}
 use Rattle.vx_arrow_image.specs.Image.{part_of}
-use Rattle.vx_arrow_columns.proofs.PickReads.{shown_all}
+use Rattle.vx_arrow_columns.proofs.RowBytes.{bits_part, bits_whole}
 use Rattle.vx_arrow_columns.proofs.Steps.{byte_put}
 use Rattle.vx_arrow_columns.proofs.writing.write_valid.Goals as goal
 
@@ -9,10 +10,7 @@ pub loop-b-preserved : goal.loop-b-preserved
 loop-b-preserved c k h = byte_put _ c.loop-b.out _ c.loop-b.b 8 _ c.loop-b.invariant c.valid_byte.ensures (omega arith) (omega arith) refl k (omega arith)
 
 pub returns-then-count-eq0 : goal.returns-then-count-eq0
-returns-then-count-eq0 c = shown_all (part_of c.args.node.now) c.args.picks.now.places.now c.args.picks.now.valid.now c.args.picks.now.add _ (8 * c.loop-b.b) (omega arith) (omega arith) c.loop-b.invariant
+returns-then-count-eq0 c = bits_whole is_some (part_of c.args.node.now) c.args.picks.now.places.now c.args.picks.now.valid.now c.args.picks.now.add _ c.loop-b.b (omega arith) (omega arith) c.loop-b.invariant
 
 pub returns : goal.returns
-returns c =
-    let n = length c.args.picks.now.places.now in
-    shown_all (part_of c.args.node.now) c.args.picks.now.places.now c.args.picks.now.valid.now c.args.picks.now.add _ n (omega arith) (omega (arith, length-set c.loop-b.out (n / 8) c.valid_byte-2.result))
-    (λ k h. byte_put _ c.loop-b.out _ (n / 8) (n % 8) _ (λ j l. c.loop-b.invariant j (omega arith)) c.valid_byte-2.ensures (omega arith) (omega arith) refl k (omega arith))
+returns c = bits_part is_some (part_of c.args.node.now) c.args.picks.now.places.now c.args.picks.now.valid.now c.args.picks.now.add c.loop-b.out _ _ (λ j l. c.loop-b.invariant j (omega arith)) c.valid_byte-2.ensures (omega arith) refl

@@ -1,4 +1,4 @@
--- One text more.
+-- The items of one row more.
 use Rattle.std.proofs.Common.{◌≤◌, ◌<◌, sym, ◌∙◌, refl, arith, length}
 use Rattle.vx_arrow_image.specs.Image.{part_of}
 use Rattle.vx_arrow_columns.specs.Picks.{picks_of}
@@ -8,8 +8,8 @@ use Rattle.vx_arrow_columns.proofs.PickReads.{length_picks, placed_end}
 use Rattle.vx_arrow_columns.proofs.Steps.{len_after, at_pick}
 use Rattle.vx_arrow_columns.proofs.MeasureSteps.{all_cut, len_none, len_some, limit_few, no_len}
 use Rattle.vx_arrow_columns.proofs.Cuts.{len_all}
-use Rattle.vx_arrow_columns.proofs.needs.text_len.Goals as goal
-use Rattle.vx_arrow_columns.proofs.needs.text_len.Goals.{in-Some+in_ok-cut+else-total-limit, in_default}
+use Rattle.vx_arrow_columns.proofs.needs.count_items.Goals as goal
+use Rattle.vx_arrow_columns.proofs.needs.count_items.Goals.{in-Some+in_ok-cut+else-total-limit, in_default}
 
 pub overflow_add-total : goal.overflow_add-total
 overflow_add-total c = let small = c.loop-k.invariant.small in let few = limit_few c.args.size in omega (arith, c.in_ok-cut.ensures.small)
@@ -22,7 +22,7 @@ loop-k-preserved c =
     let p = part_of c.args.node.now in
     let ps = c.args.picks.now in
     let q = picks_of ps.places.now ps.valid.now ps.add in
-    let count = length p.values in
+    let count = c.args.items in
     let low : c.loop-k.k < length q = omega (arith, length_picks ps.places.now ps.valid.now ps.add) in
     elim c.match-place.branch [
       | in-Some+in_ok-cut+else-total-limit w ↦
@@ -42,7 +42,7 @@ returns-clause-len c =
     let t = c.loop-k.invariant in
     let all : length q ≤ c.loop-k.k = omega (arith, length_picks ps.places.now ps.valid.now ps.add) in
     record {
-      cut = all_cut c.args.size p q (length p.values) c.loop-k.k (sym c.if-not-holds_offsets.ensures) all t.cut;
+      cut = all_cut c.args.size p q c.args.items c.loop-k.k (sym c.if-not-holds_offsets.ensures) all t.cut;
       len = t.len ∙ len_all c.args.size p q c.loop-k.k all;
       small = t.small;
     }
@@ -55,7 +55,7 @@ returns-in_err-cut-clause-fault c =
     let ps = c.args.picks.now in
     let node = c.args.node.now in
     let r = err_from_is_err_and c.from_residual.result c.from_residual.ensures.1 in
-    rw (r.1, r.2) (fault_weaker _ _ _ _ _ (λ other. not_cut c.args.size (part_of node) ps.places.now ps.valid.now ps.add (length node.values.now) c.loop-k.k c.in-Some.i c.loop-k-test.true c.in-Some.ensures.place other) (λ b. absurd b) c.in_err-cut.ensures.fault)
+    rw (r.1, r.2) (fault_weaker _ _ _ _ _ (λ other. not_cut c.args.size (part_of node) ps.places.now ps.valid.now ps.add c.args.items c.loop-k.k c.in-Some.i c.loop-k-test.true c.in-Some.ensures.place other) (λ b. absurd b) c.in_err-cut.ensures.fault)
 
 pub returns-then-total-limit-clause-fault : goal.returns-then-total-limit-clause-fault
 returns-then-total-limit-clause-fault c =
