@@ -326,32 +326,33 @@ vortex_arrow_answer vortex_arrow_check_strict(const vortex_arrow_node *nodes, si
 vortex_arrow_answer vortex_arrow_check_codes(const vortex_arrow_node *node,
     const vortex_arrow_extra *extra);
 
-/* Returns the sizes of a column's rows at these places, node by node. A place is a row number. It
- * is null if its bit of `valid` is clear, and if `valid` is empty, no place is null.
+/* Writes about how many rows and bytes `rows` selected rows need, node by node. They may be null
+ * unless `is_nullable` is 0. The return value is DONE or NO_MEMORY.
  *
- * Only the rows at the places are tested, and the numbers and the lengths of each node. The
- * children of views and of list views are kept: they need no bytes, and only their lengths are
- * tested. A column of one node of nulls, bits or a fixed width isn't tested at all: its sizes depend
- * on the number of places alone, and vortex_arrow_take tests it.
- *
- * - NO_MEANING: `node_or_step` is an invalid node, and `what` is what it lacks.
- * - BEYOND: a place that isn't null is past the rows.
- * - NULL_PICK: the column is a union, and a place is null.
- * - ROOM: there are not as many needs as nodes.
- * - OVERFLOW: the node has more rows or bytes than its offsets can count.
- * - FORMAT and NO_MEMORY. */
-vortex_arrow_answer vortex_arrow_sizes(const vortex_arrow_node *nodes, size_t n_nodes,
-    const uint64_t *places, size_t n_places, const uint8_t *valid, size_t n_valid,
-    vortex_arrow_need *needs, size_t n_needs);
+ * It is exact for formats whose rows have one size. Else it is a guess by the mean size, and
+ * vortex_arrow_select says what the rows really need. */
+uint64_t vortex_arrow_guess(const vortex_arrow_node *nodes, size_t n_nodes, uint64_t rows,
+    uint64_t is_nullable, vortex_arrow_need *needs, size_t n_needs);
 
-/* Writes the rows at the places, node by node, without the nodes that are kept. What it leaves
- * under a null isn't specified: the source's bytes, or what the output buffer held.
- * vortex_arrow_clear_nulls clears it.
+/* Writes the rows that the steps select to the rooms, node by node, without the nodes that are
+ * kept, and to *needs how many rows and bytes these are.
  *
- * - ROOM: there are not as many rooms as nodes, or one is smaller than vortex_arrow_sizes says.
- * - The statuses of vortex_arrow_sizes. */
-vortex_arrow_answer vortex_arrow_take(const vortex_arrow_node *nodes, size_t n_nodes,
-    const uint64_t *places, size_t n_places, const uint8_t *valid, size_t n_valid,
+ * Only the rows that are selected are tested, and the numbers and the lengths of each node. The
+ * children of views and of list views are kept: they need no bytes, and only their lengths are
+ * tested.
+ *
+ * - LACKING and BROKEN, as vortex_arrow_count has them.
+ * - NO_MEANING: `node_or_step` is an invalid node, and `what` is what it lacks.
+ * - NULL_PICK: the column is a union, and a row is null.
+ * - ROOM: there are not as many needs or rooms as nodes, or a room is smaller than its need. In the
+ *   second case the needs are written, so call again with larger rooms.
+ * - OVERFLOW: the node has more rows or bytes than its offsets can count.
+ * - FORMAT and NO_MEMORY.
+ *
+ * At every status except DONE, nothing is written to the rooms. At DONE each byte of a room up to its
+ * need is written, with zeros under nulls and in the bits past the rows, and no byte past it. */
+vortex_arrow_answer vortex_arrow_select(const vortex_arrow_node *nodes, size_t n_nodes,
+    const vortex_arrow_step *steps, size_t n_steps, vortex_arrow_need *needs, size_t n_needs,
     vortex_arrow_room *rooms, size_t n_rooms);
 
 /* Writes zeros under the nulls of a node that has so many rows in these lists:
@@ -366,16 +367,6 @@ vortex_arrow_answer vortex_arrow_take(const vortex_arrow_node *nodes, size_t n_n
 uint64_t vortex_arrow_clear_nulls(uint64_t format, uint64_t width, uint64_t rows, uint8_t *valid,
     size_t n_valid, uint8_t *offsets, size_t n_offsets, uint8_t *values, size_t n_values,
     uint8_t *sizes, size_t n_sizes);
-
-/* Writes the rows that a single step selects of a column of one node to its room, without a list of
- * places. Returns 0, 1 if the call doesn't serve the column or the step, or NO_MEMORY. Unless it
- * returns 0, nothing is written.
- *
- * It serves values of 1, 2, 4, 8, 16 or 32 bytes without nulls, and a slice, a filter or a take by
- * integers without nulls. It doesn't serve an invalid step, a node that lacks values, or a room that
- * is too small: vortex_arrow_count and vortex_arrow_take report these. */
-uint64_t vortex_arrow_select_flat(const vortex_arrow_node *nodes, size_t n_nodes,
-    const vortex_arrow_step *steps, size_t n_steps, vortex_arrow_room *room);
 
 /* The shim. */
 

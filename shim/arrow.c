@@ -1,7 +1,5 @@
 /* Row selection over columns of Arrow's C Data Interface. Calls libvortex_arrow_c.a. C99 and
  * C++11. */
-#include "pages.h"
-
 #include "internal.h"
 
 #include <stdlib.h>
@@ -12,9 +10,9 @@ uint32_t vortex_arrow_version(void) { return VORTEX_ARROW_VERSION; }
 /* ---- Picks ---- */
 
 /* Returns how much room the picks need. A take at the end leaves as many as it has indices, so the
- * library needn't read these to count them. Compose tests them in any case. */
-static vortex_arrow_answer count_picks(uint64_t len, const vortex_arrow_step *steps, size_t n_steps,
-    vortex_arrow_picks_need *need)
+ * library needn't read these to count them. It tests them in any case when it selects. */
+vortex_arrow_answer vortex_arrow_count_picks(uint64_t len, const vortex_arrow_step *steps,
+    size_t n_steps, vortex_arrow_picks_need *need)
 {
     const vortex_arrow_step *last = n_steps ? &steps[n_steps - 1] : NULL;
     vortex_arrow_answer done = {VORTEX_ARROW_DONE, 0, 0};
@@ -26,48 +24,6 @@ static vortex_arrow_answer count_picks(uint64_t len, const vortex_arrow_step *st
         need->valid = last->len / 8 + (last->len % 8 != 0);
     }
     return done;
-}
-
-/* Composes the steps. */
-static int has_takes(const vortex_arrow_step *steps, size_t n_steps)
-{
-    size_t k;
-    for (k = 0; k < n_steps && steps[k].kind < VORTEX_ARROW_TAKE; k++) {
-    }
-    return k < n_steps;
-}
-
-uint64_t vortex_arrow_pick(uint64_t len, const vortex_arrow_step *steps, size_t n_steps,
-    vortex_arrow_picks *p, vortex_arrow_error *error)
-{
-    vortex_arrow_picks_need need = {0, 0};
-    vortex_arrow_answer answer = count_picks(len, steps, n_steps, &need);
-    p->places = NULL;
-    if (answer.status) {
-        vortex_arrow_explain(len, steps, n_steps, answer, error);
-        return answer.status;
-    }
-    if (need.places < SIZE_MAX / 16) {
-        size_t size = 8 * need.places + need.valid + 8;
-        p->places = (uint64_t *)malloc(size);
-        vortex_advise_pages(p->places, size);
-    }
-    if (!p->places) {
-        return vortex_arrow_fault(error, VORTEX_ARROW_NO_MEMORY, "");
-    }
-    p->len = need.places;
-    p->valid = (uint8_t *)(p->places + p->len);
-    p->n_valid = need.valid;
-    p->may_repeat = has_takes(steps, n_steps);
-    memset(p->valid, 0xff, p->n_valid); /* compose clears the bits of nulls */
-    answer = vortex_arrow_compose(len, steps, n_steps, p->places, p->len, p->valid, p->n_valid);
-    if (answer.status) {
-        free(p->places);
-        p->places = NULL;
-        vortex_arrow_explain(len, steps, n_steps, answer, error);
-        return answer.status;
-    }
-    return VORTEX_ARROW_DONE;
 }
 
 /* Whether a take may leave nulls, so that the answer is nullable. */
@@ -163,21 +119,32 @@ static uint64_t check_column(const table *outer, size_t node, const struct Arrow
 
 /* ---- The calls ---- */
 
-/* Makes an array of the rows that are picked. */
-uint64_t vortex_arrow_take_rows(const struct ArrowSchema *schema, struct ArrowArray *array,
-    const vortex_arrow_picks *p, struct ArrowArray *out, vortex_arrow_error *error)
+/* Makes an array of the rows that the steps select. An invalid step is reported before any other
+ * fault, so the steps are tested where the structs have one. */
+uint64_t vortex_arrow_select_rows(const struct ArrowSchema *schema, struct ArrowArray *array,
+    const vortex_arrow_step *steps, size_t n_steps, struct ArrowArray *out,
+    vortex_arrow_error *error)
 {
-    table t;
+    vortex_arrow_picks_need need = {0, 0};
+    vortex_arrow_answer answer = {VORTEX_ARROW_DONE, 0, 0};
     size_t left = VORTEX_ARROW_NODES;
-    uint64_t status;
+    table t;
+    memset(error, 0, sizeof *error);
     memset(&t, 0, sizeof t);
     t.error = error;
     t.left = &left;
-    status = vortex_arrow_walk(&t, schema, array, 1);
-    status = status ? status : vortex_arrow_admit_dictionaries(&t);
-    status = status ? status : vortex_arrow_answer_rows(&t, p, out);
+    if (vortex_arrow_walk(&t, schema, array, 1) || vortex_arrow_admit_dictionaries(&t)) {
+        answer = vortex_arrow_count((uint64_t)array->length, steps, n_steps, &need);
+    } else {
+        answer = vortex_arrow_answer_rows(&t, steps, n_steps, out);
+    }
+    if (answer.status == VORTEX_ARROW_BROKEN || answer.status == VORTEX_ARROW_LACKING) {
+        vortex_arrow_explain((uint64_t)array->length, steps, n_steps, answer, error);
+    } else if (answer.status) {
+        vortex_arrow_fault_of_node(&t, answer);
+    }
     vortex_arrow_drop_table(&t);
-    return status;
+    return error->status;
 }
 
 uint64_t vortex_arrow_check_array(const struct ArrowSchema *schema, struct ArrowArray *array,
@@ -215,70 +182,23 @@ static uint64_t answer_schema(const struct ArrowSchema *schema, const vortex_arr
     return status;
 }
 
-/* Makes an array of the rows that a single step selects of a column without children, a dictionary
- * or nulls. Returns DONE, NO_MEMORY, or VORTEX_NOT_FLAT: it isn't such a column, or there is a fault,
- * which the longer way reports. */
-static uint64_t select_flat(const struct ArrowSchema *schema, struct ArrowArray *array,
-    const vortex_arrow_step *steps, size_t n_steps, struct ArrowArray *out)
-{
-    vortex_arrow_error unread;
-    vortex_arrow_picks_need need = {0, 0};
-    size_t left = VORTEX_ARROW_NODES;
-    uint64_t status;
-    table t;
-    if (n_steps != 1 || array->n_children || array->dictionary || array->n_buffers != 2) {
-        return VORTEX_NOT_FLAT;
-    }
-    memset(&t, 0, sizeof t);
-    memset(&unread, 0, sizeof unread);
-    t.error = &unread;
-    t.left = &left;
-    status = vortex_arrow_walk(&t, schema, array, 1);
-    if (!status && (t.nodes[0].format != VORTEX_ARROW_FIXED || t.nodes[0].valid.len)) {
-        status = VORTEX_NOT_FLAT;
-    }
-    status = status ? status
-        : count_picks((uint64_t)array->length, steps, n_steps, &need).status;
-    status = status || need.valid ? status : vortex_arrow_answer_flat(&t, steps, need.places, out);
-    vortex_arrow_drop_table(&t);
-    return status == VORTEX_ARROW_NO_MEMORY || (!status && !need.valid) ? status : VORTEX_NOT_FLAT;
-}
-
 uint64_t vortex_select_arrow(const struct ArrowSchema *schema, struct ArrowArray *array,
     const vortex_arrow_step *steps, size_t n_steps, struct ArrowSchema *out_schema,
     struct ArrowArray *out_array, vortex_arrow_error *error)
 {
     vortex_arrow_error unread;
-    vortex_arrow_picks p;
-    uint64_t status;
     error = error ? error : &unread;
     memset(error, 0, sizeof *error);
     out_array->release = NULL;
     if (out_schema) {
         out_schema->release = NULL;
     }
-    if (vortex_arrow_admit(schema, array, error)) {
+    if (vortex_arrow_admit(schema, array, error) ||
+        vortex_arrow_select_rows(schema, array, steps, n_steps, out_array, error)) {
         return error->status;
     }
-    status = select_flat(schema, array, steps, n_steps, out_array);
-    if (status == VORTEX_ARROW_NO_MEMORY) {
-        return vortex_arrow_fault(error, status, "");
+    if (answer_schema(schema, steps, n_steps, out_schema, error)) {
+        out_array->release(out_array);
     }
-    if (!status) {
-        status = answer_schema(schema, steps, n_steps, out_schema, error);
-        if (status) {
-            out_array->release(out_array);
-        }
-        return status;
-    }
-    if (vortex_arrow_pick((uint64_t)array->length, steps, n_steps, &p, error)) {
-        return error->status;
-    }
-    status = answer_schema(schema, steps, n_steps, out_schema, error);
-    status = status ? status : vortex_arrow_take_rows(schema, array, &p, out_array, error);
-    if (status && out_schema && out_schema->release) {
-        out_schema->release(out_schema);
-    }
-    free(p.places);
-    return status;
+    return error->status;
 }

@@ -52,19 +52,24 @@ static uint64_t bytes_of(const table *t, size_t node, const vortex_arrow_need *n
     return bytes;
 }
 
-/* Allocates one block for the whole answer. Returns 0 where memory runs out. */
-static int supply_answer(const table *t, const vortex_arrow_need *needs, supply *s)
+/* How many bytes the answer has, or more than PTRDIFF_MAX / 4. */
+static uint64_t bytes_of_all(const table *t, const vortex_arrow_need *needs)
 {
     uint64_t bytes = t->n_buffers * sizeof(void *) + 64;
     size_t k;
-    for (k = 0; k < t->len; k++) {
+    for (k = 0; k < t->len && bytes <= PTRDIFF_MAX / 4; k++) {
         uint64_t more = bytes_of(t, k, &needs[k]);
-        if (more > PTRDIFF_MAX / 4 || bytes > PTRDIFF_MAX / 4) {
-            return 0;
-        }
-        bytes += more;
+        bytes = more > PTRDIFF_MAX / 4 ? more : bytes + more;
     }
-    if (!vortex_arrow_supply(s, t->n_arrays, t->n_arrays + t->n_shared, bytes)) {
+    return bytes;
+}
+
+/* Allocates one block for the whole answer. Returns 0 where memory runs out. */
+static int supply_answer(const table *t, const vortex_arrow_need *needs, supply *s)
+{
+    uint64_t bytes = bytes_of_all(t, needs);
+    if (bytes > PTRDIFF_MAX / 4 ||
+        !vortex_arrow_supply(s, t->n_arrays, t->n_arrays + t->n_shared, bytes)) {
         return 0;
     }
     s->of->held = s->arrays;
@@ -83,7 +88,7 @@ static void keep_buffers(const struct ArrowArray *from, struct ArrowArray *to, i
     }
 }
 
-/* Sets the buffers of an array that the library writes to. The bytes after the rows are cleared. */
+/* Sets the buffers of an array that the library writes to. */
 static void place_buffers(const table *t, size_t node, const vortex_arrow_need *need,
     vortex_arrow_room *room, struct ArrowArray *to, supply *s)
 {
@@ -97,8 +102,7 @@ static void place_buffers(const table *t, size_t node, const vortex_arrow_need *
         vortex_arrow_room_bytes *bytes = room_of(room, slot);
         uint64_t space = space_of(need, slot);
         bytes->data = s->bytes;
-        bytes->len = need_of(need, slot);
-        memset(bytes->data + bytes->len, 0, space - bytes->len);
+        bytes->len = space;
         if (k < from->n_buffers) {
             to->buffers[k] = space ? s->bytes : NULL;
         }
@@ -106,6 +110,64 @@ static void place_buffers(const table *t, size_t node, const vortex_arrow_need *
     }
     keep_buffers(from, to, k);
     s->buffers += from->n_buffers;
+}
+
+/* The next array of a supply. It is released until something is put there. */
+static struct ArrowArray *next_array(supply *s)
+{
+    s->arrays->release = NULL;
+    return s->arrays++;
+}
+
+/* Makes the array of a node, without its numbers, its children and what it shares. */
+static void place_one(const table *t, size_t node, const vortex_arrow_need *need,
+    vortex_arrow_room *room, struct ArrowArray *to, supply *s)
+{
+    const struct ArrowArray *from = t->sources[node].array;
+    memset(to, 0, sizeof *to);
+    vortex_arrow_own(s, to, NULL, NULL);
+    place_buffers(t, node, need, room, to, s);
+    to->dictionary = from->dictionary ? next_array(s) : NULL;
+    to->n_children = from->n_children;
+    to->children = to->n_children ? s->pointers : NULL;
+    s->pointers += to->n_children;
+}
+
+/* Makes the array of a node, and those of its descendants. */
+static void place(const table *t, size_t node, const vortex_arrow_need *needs,
+    vortex_arrow_room *rooms, struct ArrowArray *to, supply *s)
+{
+    size_t next = node + 1;
+    int64_t k;
+    place_one(t, node, &needs[node], &rooms[node], to, s);
+    for (k = 0; k < to->n_children; k++) {
+        to->children[k] = next_array(s);
+        if (!t->sources[next].is_kept) {
+            place(t, next, needs, rooms, to->children[k], s);
+        }
+        next = t->sources[next].end;
+    }
+}
+
+/* Sets the numbers of an array that was written, and clears the rest of each buffer's last cache
+ * line. */
+static void finish_one(const table *t, size_t node, const vortex_arrow_need *need,
+    vortex_arrow_room *room, struct ArrowArray *to)
+{
+    uint64_t number = 1;
+    char slot;
+    to->length = (int64_t)need->len;
+    to->null_count = need->valid ? -1 : 0;
+    if (t->nodes[node].format == VORTEX_ARROW_NULL) {
+        to->null_count = to->length;
+    }
+    for (; (slot = slot_at(&t->sources[node].layout, &t->nodes[node], number)) != 0; number++) {
+        uint64_t used = need_of(need, slot), space = space_of(need, slot);
+        memset(room_of(room, slot)->data + used, 0, space - used);
+        if (!space) {
+            to->buffers[number - 1] = NULL;
+        }
+    }
 }
 
 /* Shares an array of the source with the answer. */
@@ -123,45 +185,26 @@ static void hold_data(struct ArrowArray *from, struct ArrowArray *to, supply *s)
     ((part *)to->private_data)->lender = held;
 }
 
-/* Makes the array of a node, without its children. */
-static void place_one(const table *t, size_t node, const vortex_arrow_need *need,
-    vortex_arrow_room *room, struct ArrowArray *to, supply *s)
-{
-    struct ArrowArray *from = t->sources[node].array;
-    memset(to, 0, sizeof *to);
-    vortex_arrow_own(s, to, NULL, NULL);
-    to->length = (int64_t)need->len;
-    to->null_count = need->valid ? -1 : 0;
-    if (t->nodes[node].format == VORTEX_ARROW_NULL) {
-        to->null_count = to->length;
-    }
-    place_buffers(t, node, need, room, to, s);
-    if (vortex_arrow_has_views(&t->nodes[node])) {
-        hold_data(from, to, s);
-    }
-    if (from->dictionary) {
-        to->dictionary = s->arrays++;
-        hand_on(from->dictionary, to->dictionary, s);
-    }
-    to->n_children = from->n_children;
-    to->children = to->n_children ? s->pointers : NULL;
-    s->pointers += to->n_children;
-}
-
-/* Makes the array of a node, and those of its descendants. */
-static void place(const table *t, size_t node, const vortex_arrow_need *needs,
+/* Finishes an array that was written, and its descendants: numbers, and what is shared with the
+ * source. A fault that was found before has left the source as it was. */
+static void finish(const table *t, size_t node, const vortex_arrow_need *needs,
     vortex_arrow_room *rooms, struct ArrowArray *to, supply *s)
 {
     struct ArrowArray *from = t->sources[node].array;
     size_t next = node + 1;
     int64_t k;
-    place_one(t, node, &needs[node], &rooms[node], to, s);
+    finish_one(t, node, &needs[node], &rooms[node], to);
+    if (vortex_arrow_has_views(&t->nodes[node])) {
+        hold_data(from, to, s);
+    }
+    if (from->dictionary) {
+        hand_on(from->dictionary, to->dictionary, s);
+    }
     for (k = 0; k < to->n_children; k++) {
-        to->children[k] = s->arrays++;
         if (t->sources[next].is_kept) {
             hand_on(from->children[k], to->children[k], s);
         } else {
-            place(t, next, needs, rooms, to->children[k], s);
+            finish(t, next, needs, rooms, to->children[k], s);
         }
         next = t->sources[next].end;
     }
@@ -181,57 +224,59 @@ static vortex_arrow_node written_node(const vortex_arrow_node *from, const vorte
     return node;
 }
 
-/* Has the library write zeros under the nulls of a node: what it left there is either the source's
- * or what was in this memory before. Returns the status. */
-static uint64_t clear_nulls(const vortex_arrow_node *from, const vortex_arrow_need *need,
-    const vortex_arrow_room *room)
-{
-    return vortex_arrow_clear_nulls(from->format, from->width, need->len, room->valid.data,
-        room->valid.len, room->offsets.data, room->offsets.len, room->values.data,
-        room->values.len, room->sizes.data, room->sizes.len);
-}
-
-/* Clears what is under nulls, and tests the codes of dictionaries. */
-static vortex_arrow_answer finish(const table *t, const vortex_arrow_need *needs,
+/* Tests the codes of dictionaries. */
+static vortex_arrow_answer check_codes(const table *t, const vortex_arrow_need *needs,
     const vortex_arrow_room *rooms)
 {
     vortex_arrow_answer answer = {VORTEX_ARROW_DONE, 0, 0};
     size_t k;
-    for (k = 0; k < t->len; k++) {
+    for (k = 0; k < t->len && !answer.status; k++) {
         vortex_arrow_node node = written_node(&t->nodes[k], &needs[k], &rooms[k]);
         vortex_arrow_extra extra = vortex_arrow_extra_of(&t->sources[k]);
-        if (t->sources[k].is_kept) {
-            continue;
-        }
-        answer.status = clear_nulls(&t->nodes[k], &needs[k], &rooms[k]);
-        if (!answer.status) {
+        if (!t->sources[k].is_kept) {
             answer = vortex_arrow_check_codes(&node, &extra);
-        }
-        if (answer.status) {
             answer.node_or_step = k;
-            break;
         }
     }
     return answer;
 }
 
-/* Makes an array with room for the rows, and has the library write them. */
-static vortex_arrow_answer write_rows(const table *t, const vortex_arrow_picks *p,
-    const vortex_arrow_need *needs, vortex_arrow_room *rooms, struct ArrowArray *out)
+/* ---- One selection ---- */
+
+/* What is selected, of what, and how many rows and bytes each node has. */
+typedef struct selection {
+    const table *t;
+    const vortex_arrow_step *steps;
+    size_t n_steps;
+    vortex_arrow_need *needs;
+    vortex_arrow_room *rooms;
+} selection;
+
+/* Has the library write the rows to the rooms, or say how large these have to be. */
+static vortex_arrow_answer write_rows(const selection *s)
+{
+    return vortex_arrow_select(s->t->nodes, s->t->len, s->steps, s->n_steps, s->needs, s->t->len,
+        s->rooms, s->t->len);
+}
+
+/* Makes an array with the rooms that the needs say, and has the library write the rows. The needs
+ * are the right ones where the status is ROOM. */
+static vortex_arrow_answer make(const selection *s, struct ArrowArray *out)
 {
     vortex_arrow_answer answer = {VORTEX_ARROW_NO_MEMORY, VORTEX_NO_NODE, 0};
-    supply s;
-    if (!supply_answer(t, needs, &s)) {
+    supply memory;
+    if (!supply_answer(s->t, s->needs, &memory)) {
         return answer;
     }
-    place(t, 0, needs, rooms, out, &s);
-    answer.status = s.status;
+    place(s->t, 0, s->needs, s->rooms, out, &memory);
+    answer = write_rows(s);
     if (!answer.status) {
-        answer = vortex_arrow_take(t->nodes, t->len, p->places, p->len, p->valid, p->n_valid,
-            rooms, t->len);
+        answer = check_codes(s->t, s->needs, s->rooms);
     }
     if (!answer.status) {
-        answer = finish(t, needs, rooms);
+        finish(s->t, 0, s->needs, s->rooms, out, &memory);
+        answer.status = memory.status;
+        answer.node_or_step = VORTEX_NO_NODE;
     }
     if (answer.status) {
         out->release(out);
@@ -239,51 +284,63 @@ static vortex_arrow_answer write_rows(const table *t, const vortex_arrow_picks *
     return answer;
 }
 
-/* Makes an array of the rows that are selected. */
-uint64_t vortex_arrow_answer_rows(const table *t, const vortex_arrow_picks *p,
-    struct ArrowArray *out)
+/* Sets the needs to a guess. */
+static vortex_arrow_answer guess(const selection *s)
 {
-    vortex_arrow_need *needs = (vortex_arrow_need *)calloc(t->len, sizeof *needs);
-    vortex_arrow_room *rooms = (vortex_arrow_room *)calloc(t->len, sizeof *rooms);
-    vortex_arrow_answer answer = {VORTEX_ARROW_NO_MEMORY, VORTEX_NO_NODE, 0};
-    size_t node = vortex_arrow_long_lists(t, p);
-    if (node != VORTEX_NO_NODE) {
-        answer.status = VORTEX_ARROW_OVERFLOW;
-        answer.node_or_step = node;
-    } else if (needs && rooms) {
-        answer = vortex_arrow_sizes(t->nodes, t->len, p->places, p->len, p->valid, p->n_valid,
-            needs, t->len);
-    }
+    vortex_arrow_picks_need count = {0, 0};
+    vortex_arrow_answer answer = vortex_arrow_count_picks(s->t->nodes[0].len, s->steps, s->n_steps,
+        &count);
     if (!answer.status) {
-        answer = write_rows(t, p, needs, rooms, out);
+        answer.status = vortex_arrow_guess(s->t->nodes, s->t->len, count.places,
+            (uint64_t)vortex_arrow_leaves_nulls(s->steps, s->n_steps), s->needs, s->t->len);
     }
-    free(needs);
-    free(rooms);
-    return answer.status ? vortex_arrow_fault_of_node(t, answer) : answer.status;
+    return answer;
 }
 
-/* Makes an array of the `rows` rows that a step selects of a column of one node, without a list of
- * places. Returns DONE, NO_MEMORY, or VORTEX_NOT_FLAT if the library doesn't serve it. */
-uint64_t vortex_arrow_answer_flat(const table *t, const vortex_arrow_step *step, uint64_t rows,
-    struct ArrowArray *out)
+/* Sets the needs to what the library says. */
+static vortex_arrow_answer measure(const selection *s)
 {
-    vortex_arrow_need need = {0, 0, 0, 0, 0};
-    vortex_arrow_room room;
-    uint64_t status;
-    supply s;
-    if (rows > PTRDIFF_MAX / 64 || t->nodes[0].width > 32) {
-        return VORTEX_NOT_FLAT;
+    vortex_arrow_answer answer;
+    memset(s->rooms, 0, s->t->len * sizeof *s->rooms);
+    answer = write_rows(s);
+    answer.status = answer.status == VORTEX_ARROW_ROOM ? (uint64_t)VORTEX_ARROW_DONE
+        : answer.status;
+    return answer;
+}
+
+/* From so many bytes on, a guess for which there is no memory may be far too large: it goes by the
+ * last offset of strings and lists, which may be wrong where no row is selected. */
+#define LARGE_GUESS ((uint64_t)1 << 20)
+
+/* Makes an array of the rows that the steps select. Where the guess is too small, or too large, the
+ * library is called again. */
+static vortex_arrow_answer make_by_guess(const selection *s, struct ArrowArray *out)
+{
+    vortex_arrow_answer answer = guess(s);
+    if (answer.status) {
+        return answer;
     }
-    need.len = rows;
-    need.values = rows * t->nodes[0].width;
-    memset(&room, 0, sizeof room);
-    if (!supply_answer(t, &need, &s)) {
-        return VORTEX_ARROW_NO_MEMORY;
+    answer = make(s, out);
+    if (answer.status == VORTEX_ARROW_NO_MEMORY && bytes_of_all(s->t, s->needs) >= LARGE_GUESS) {
+        answer = measure(s);
+        answer = answer.status ? answer : make(s, out);
+    } else if (answer.status == VORTEX_ARROW_ROOM) {
+        answer = make(s, out);
     }
-    place(t, 0, &need, &room, out, &s);
-    status = s.status ? s.status : vortex_arrow_select_flat(t->nodes, 1, step, 1, &room);
-    if (status) {
-        out->release(out);
+    return answer;
+}
+
+vortex_arrow_answer vortex_arrow_answer_rows(const table *t, const vortex_arrow_step *steps,
+    size_t n_steps, struct ArrowArray *out)
+{
+    vortex_arrow_answer answer = {VORTEX_ARROW_NO_MEMORY, VORTEX_NO_NODE, 0};
+    selection s = {t, steps, n_steps, NULL, NULL};
+    s.needs = (vortex_arrow_need *)calloc(t->len, sizeof *s.needs);
+    s.rooms = (vortex_arrow_room *)calloc(t->len, sizeof *s.rooms);
+    if (s.needs && s.rooms) {
+        answer = make_by_guess(&s, out);
     }
-    return status == VORTEX_ARROW_NO_MEMORY || !status ? status : VORTEX_NOT_FLAT;
+    free(s.needs);
+    free(s.rooms);
+    return answer;
 }

@@ -1,4 +1,6 @@
 /* Row selection over the batches of an Arrow stream, as if they were one column. C99 and C++11. */
+#include "pages.h"
+
 #include "internal.h"
 
 #include <errno.h>
@@ -12,8 +14,10 @@ typedef struct selected {
     struct ArrowArray *batches;
     uint64_t *starts; /* the number of each batch's first row, and the number of all rows */
     size_t n_batches;
-    vortex_arrow_picks picks;
-    size_t next;   /* the first pick that isn't returned yet */
+    uint64_t *places; /* the rows that the steps select, and then their validity bits */
+    uint8_t *valid;   /* null where no row may be null */
+    size_t n_places;
+    size_t next;   /* the first place that isn't returned yet */
     int was_given; /* whether a batch was returned */
     vortex_arrow_error error;
 } selected;
@@ -29,7 +33,7 @@ static void drop(selected *s)
     }
     free(s->batches);
     free(s->starts);
-    free(s->picks.places);
+    free(s->places);
     free(s);
 }
 
@@ -48,7 +52,7 @@ static int get_schema(struct ArrowArrayStream *stream, struct ArrowSchema *out)
 
 static int is_there(const selected *s, size_t k)
 {
-    return !s->picks.n_valid || (s->picks.valid[k / 8] >> k % 8 & 1);
+    return !s->valid || (s->valid[k / 8] >> k % 8 & 1);
 }
 
 /* Returns the batch that a row is in. */
@@ -66,22 +70,22 @@ static size_t batch_of(const selected *s, uint64_t row)
     return low;
 }
 
-/* Returns the first pick from `k` on that isn't null. */
+/* Returns the first place from `k` on that isn't null. */
 static size_t first_there(const selected *s, size_t k)
 {
-    while (k < s->picks.len && !is_there(s, k)) {
+    while (k < s->n_places && !is_there(s, k)) {
         k++;
     }
     return k;
 }
 
-/* Returns how many picks from `next` on are null or of one batch, which is *batch. */
+/* Returns how many places from `next` on are null or of one batch, which is *batch. */
 static size_t run_of(const selected *s, size_t *batch)
 {
-    size_t k, len = s->picks.len, first = first_there(s, s->next);
-    *batch = first < len ? batch_of(s, s->picks.places[first]) : 0;
+    size_t k, len = s->n_places, first = first_there(s, s->next);
+    *batch = first < len ? batch_of(s, s->places[first]) : 0;
     for (k = first; k < len; k++) {
-        uint64_t place = s->picks.places[k];
+        uint64_t place = s->places[k];
         if (is_there(s, k) && (place < s->starts[*batch] || place >= s->starts[*batch + 1])) {
             break;
         }
@@ -89,35 +93,42 @@ static size_t run_of(const selected *s, size_t *batch)
     return k - s->next;
 }
 
-/* Makes picks of a run of picks, with places within their batch. Returns 0 where memory runs out.
- * */
-static int cut(const selected *s, size_t batch, size_t len, vortex_arrow_picks *to)
+/* Makes a take of a run of places, numbered within their batch. Returns its block of memory, or null
+ * where memory runs out. */
+static void *cut(const selected *s, size_t batch, size_t len, vortex_arrow_step *take)
 {
-    size_t k;
-    to->len = len;
-    to->may_repeat = s->picks.may_repeat;
-    to->n_valid = s->picks.n_valid ? (len + 7) / 8 : 0;
-    to->places = (uint64_t *)calloc(1, 8 * len + to->n_valid + 8);
-    if (!to->places) {
-        return 0;
+    size_t k, n_valid = s->valid ? len / 8 + 1 : 0;
+    uint64_t *places = (uint64_t *)calloc(1, 8 * len + n_valid + 8);
+    uint8_t *valid;
+    memset(take, 0, sizeof *take);
+    if (!places) {
+        return NULL;
     }
-    to->valid = (uint8_t *)(to->places + len);
+    valid = (uint8_t *)(places + len);
     for (k = 0; k < len; k++) {
         int there = is_there(s, s->next + k);
-        to->places[k] = there ? s->picks.places[s->next + k] - s->starts[batch] : 0;
-        if (to->n_valid) {
-            to->valid[k / 8] |= (uint8_t)(there << k % 8);
+        places[k] = there ? s->places[s->next + k] - s->starts[batch] : 0;
+        if (n_valid) {
+            valid[k / 8] |= (uint8_t)(there << k % 8);
         }
     }
-    return 1;
+    take->kind = VORTEX_ARROW_TAKE;
+    take->ptype = VORTEX_ARROW_U64;
+    take->len = len;
+    take->values.data = (const uint8_t *)places;
+    take->values.len = 8 * len;
+    take->valid.data = valid;
+    take->valid.len = n_valid;
+    return places;
 }
 
 static int get_next(struct ArrowArrayStream *stream, struct ArrowArray *out)
 {
     selected *s = (selected *)stream->private_data;
-    vortex_arrow_picks part;
+    vortex_arrow_step take;
     size_t batch, len = run_of(s, &batch);
     uint64_t status;
+    void *block;
     memset(out, 0, sizeof *out);
     if (!len && (s->was_given || !s->n_batches)) {
         return 0;
@@ -125,11 +136,12 @@ static int get_next(struct ArrowArrayStream *stream, struct ArrowArray *out)
     if (!s->n_batches) {
         return code_of(vortex_arrow_fault(&s->error, VORTEX_ARROW_SHAPE, "no batch for nulls"));
     }
-    if (!cut(s, batch, len, &part)) {
+    block = cut(s, batch, len, &take);
+    if (!block) {
         return code_of(vortex_arrow_fault(&s->error, VORTEX_ARROW_NO_MEMORY, ""));
     }
-    status = vortex_arrow_take_rows(&s->schema, &s->batches[batch], &part, out, &s->error);
-    free(part.places);
+    status = vortex_arrow_select_rows(&s->schema, &s->batches[batch], &take, 1, out, &s->error);
+    free(block);
     if (status) {
         out->release = NULL;
         return code_of(status);
@@ -226,11 +238,37 @@ static uint64_t read_batches(struct ArrowArrayStream *source, selected *s,
     return status;
 }
 
+/* Composes the steps over the rows of all batches. */
+static vortex_arrow_answer compose(selected *s, uint64_t rows, const vortex_arrow_step *steps,
+    size_t n_steps)
+{
+    vortex_arrow_picks_need need = {0, 0};
+    vortex_arrow_answer answer = vortex_arrow_count_picks(rows, steps, n_steps, &need);
+    if (answer.status) {
+        return answer;
+    }
+    answer.status = VORTEX_ARROW_NO_MEMORY;
+    if (need.places < SIZE_MAX / 16) {
+        size_t size = 8 * need.places + need.valid + 8;
+        s->places = (uint64_t *)malloc(size);
+        vortex_advise_pages(s->places, size);
+    }
+    if (!s->places) {
+        return answer;
+    }
+    s->n_places = need.places;
+    s->valid = need.valid ? (uint8_t *)(s->places + need.places) : NULL;
+    memset(s->places + need.places, 0xff, need.valid); /* compose clears the bits of nulls */
+    return vortex_arrow_compose(rows, steps, n_steps, s->places, need.places,
+        (uint8_t *)(s->places + need.places), need.valid);
+}
+
 /* Reads the source to its end, and composes the steps over its rows. */
 static uint64_t read_all(struct ArrowArrayStream *source, const vortex_arrow_step *steps,
     size_t n_steps, selected *s, vortex_arrow_error *error)
 {
     uint64_t rows;
+    vortex_arrow_answer answer;
     if (!source || !source->release) {
         return vortex_arrow_fault(error, VORTEX_ARROW_SHAPE, "release");
     }
@@ -238,7 +276,11 @@ static uint64_t read_all(struct ArrowArrayStream *source, const vortex_arrow_ste
         return error->status;
     }
     rows = s->n_batches ? s->starts[s->n_batches] : 0;
-    return vortex_arrow_pick(rows, steps, n_steps, &s->picks, error);
+    answer = compose(s, rows, steps, n_steps);
+    if (answer.status) {
+        vortex_arrow_explain(rows, steps, n_steps, answer, error);
+    }
+    return answer.status;
 }
 
 uint64_t vortex_select_arrow_stream(struct ArrowArrayStream *source, const vortex_arrow_step *steps,

@@ -253,6 +253,21 @@ uint64_t vortex_arrow_walk(table *t, const struct ArrowSchema *schema, struct Ar
     return status;
 }
 
+/* Returns what a node's image doesn't have. A data buffer of views has nothing beside it. */
+vortex_arrow_extra vortex_arrow_extra_of(const source *from)
+{
+    vortex_arrow_extra extra = {UINT64_MAX, 0, 0, 0};
+    if (from->schema) {
+        extra.null_count = (uint64_t)from->array->null_count; /* -1 is UINT64_MAX */
+        extra.map = from->layout.is_map;
+    }
+    if (from->schema && from->array->dictionary) {
+        extra.codes = from->layout.codes;
+        extra.values = (uint64_t)from->array->dictionary->length;
+    }
+    return extra;
+}
+
 void vortex_arrow_drop_table(table *t)
 {
     free(t->nodes);

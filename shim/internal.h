@@ -15,14 +15,6 @@
 extern "C" {
 #endif
 
-/* The rows that steps select: places and validity bits in one block. Free `places`. */
-typedef struct vortex_arrow_picks {
-    uint64_t *places;
-    uint8_t *valid;
-    size_t len, n_valid;
-    int may_repeat; /* whether a take was among the steps; else the places ascend */
-} vortex_arrow_picks;
-
 /* The memory that arrays of the shim point to. It is freed with the last of these arrays. */
 typedef struct owner {
     size_t count;
@@ -121,15 +113,15 @@ VORTEX_HIDDEN uint64_t vortex_arrow_fault_at(const table *t, uint64_t status, si
 VORTEX_HIDDEN uint64_t vortex_arrow_fault_of_node(const table *t, vortex_arrow_answer answer);
 
 /* arrow.c */
-VORTEX_HIDDEN uint64_t vortex_arrow_pick(uint64_t len, const vortex_arrow_step *steps,
-    size_t n_steps, vortex_arrow_picks *p, vortex_arrow_error *error);
+VORTEX_HIDDEN vortex_arrow_answer vortex_arrow_count_picks(uint64_t len,
+    const vortex_arrow_step *steps, size_t n_steps, vortex_arrow_picks_need *need);
 VORTEX_HIDDEN uint64_t vortex_arrow_admit(const struct ArrowSchema *schema,
     const struct ArrowArray *array, vortex_arrow_error *error);
 VORTEX_HIDDEN uint64_t vortex_arrow_admit_dictionaries(const table *t);
 VORTEX_HIDDEN int vortex_arrow_leaves_nulls(const vortex_arrow_step *steps, size_t n_steps);
-VORTEX_HIDDEN uint64_t vortex_arrow_take_rows(const struct ArrowSchema *schema,
-    struct ArrowArray *array, const vortex_arrow_picks *p, struct ArrowArray *out,
-    vortex_arrow_error *error);
+VORTEX_HIDDEN uint64_t vortex_arrow_select_rows(const struct ArrowSchema *schema,
+    struct ArrowArray *array, const vortex_arrow_step *steps, size_t n_steps,
+    struct ArrowArray *out, vortex_arrow_error *error);
 
 /* arrow_formats.c */
 VORTEX_HIDDEN int vortex_arrow_has_views(const vortex_arrow_node *node);
@@ -140,17 +132,11 @@ VORTEX_HIDDEN int vortex_arrow_is_list_view(const vortex_arrow_node *node);
 VORTEX_HIDDEN uint64_t vortex_arrow_walk(table *t, const struct ArrowSchema *schema,
     struct ArrowArray *array, int level);
 VORTEX_HIDDEN void vortex_arrow_drop_table(table *t);
+VORTEX_HIDDEN vortex_arrow_extra vortex_arrow_extra_of(const source *from);
 
 /* arrow_answer.c */
-VORTEX_HIDDEN uint64_t vortex_arrow_answer_rows(const table *t, const vortex_arrow_picks *p,
-    struct ArrowArray *out);
-#define VORTEX_NOT_FLAT ((uint64_t)1)
-VORTEX_HIDDEN uint64_t vortex_arrow_answer_flat(const table *t, const vortex_arrow_step *step,
-    uint64_t rows, struct ArrowArray *out);
-
-/* arrow_contents.c */
-VORTEX_HIDDEN size_t vortex_arrow_long_lists(const table *t, const vortex_arrow_picks *p);
-VORTEX_HIDDEN vortex_arrow_extra vortex_arrow_extra_of(const source *from);
+VORTEX_HIDDEN vortex_arrow_answer vortex_arrow_answer_rows(const table *t,
+    const vortex_arrow_step *steps, size_t n_steps, struct ArrowArray *out);
 
 /* arrow_arrays.c */
 VORTEX_HIDDEN int vortex_arrow_supply(supply *s, size_t parts, size_t arrays, uint64_t extra);

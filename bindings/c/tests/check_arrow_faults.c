@@ -242,7 +242,7 @@ static void many_nulls(void)
     expect(status == VORTEX_ARROW_NO_MEMORY && !out.release, "2^55 rows", status);
     c.array.length = (int64_t)1 << 60;
     status = vortex_select_arrow(&c.schema, &c.array, NULL, 0, NULL, &out, &error);
-    expect(status == VORTEX_ARROW_NO_MEMORY && !out.release, "2^60 rows", status);
+    expect(status == VORTEX_ARROW_NO_MEANING && !out.release, "2^60 rows", status);
 }
 
 static void string_offsets(void)
@@ -391,9 +391,13 @@ static void names(void)
     wanted[sizeof error.place - 1] = 0;
     expect(!strcmp(error.place, wanted), "a place that is cut", 0);
     expect(strlen(error.text) < sizeof error.text && !strncmp(error.text, wanted, 119), "text", 0);
+    longest[117] = 0;
+    check(&top, &error);
+    expect(strlen(error.place) == 119 && error.place[118] == 'n', "a name that is cut", 0);
     longest[115 - 4] = 0;
     check(&top, &error);
     expect(strlen(error.place) == 119 && !strcmp(error.place + 115, " buf"), "a part is cut", 0);
+    expect(!strncmp(error.text + 119, ": expected", 10), "words after a part that is cut", 0);
     longest[119 - 4] = 0;
     check(&top, &error);
     expect(strlen(error.place) == 119, "a name that fills the place", 0);

@@ -78,6 +78,19 @@ static char *rows_of(const struct ArrowSchema *schema, const struct ArrowArray *
 
 /* ---- Select ---- */
 
+/* Expects the same rows as before, if there were some, and returns them. */
+static char *expect_same(char *before, struct ArrowSchema *schema, struct ArrowArray *array,
+    uint64_t seed)
+{
+    char *now = rows_of(schema, array);
+    expect(!before || !strcmp(now, before), "the same answer", seed);
+    array->release(array);
+    schema->release(schema);
+    free(before);
+    return now;
+}
+
+/* An allocation that fails has the call fail, or take a longer way to the same answer. */
 static void select_at(const struct ArrowSchema *schema, struct ArrowArray *array, const char *rows,
     const vortex_arrow_step *steps, size_t n_steps, uint64_t seed)
 {
@@ -85,6 +98,7 @@ static void select_at(const struct ArrowSchema *schema, struct ArrowArray *array
     struct ArrowArray out;
     vortex_arrow_error error;
     uint64_t status = VORTEX_ARROW_NO_MEMORY;
+    char *answer = NULL;
     int has = 1;
     long n;
     for (n = 0; has; n++) {
@@ -92,18 +106,18 @@ static void select_at(const struct ArrowSchema *schema, struct ArrowArray *array
         fail_at(n);
         status = vortex_select_arrow(schema, array, steps, n_steps, &out_schema, &out, &error);
         has = has_failed();
-        expect(!has || status == VORTEX_ARROW_NO_MEMORY, "no memory", seed);
-        expect(!has || (!out.release && !out_schema.release), "no answer", seed);
-        expect(!has || strstr(error.text, "out of memory"), "its words", seed);
+        expect(!has || status == VORTEX_ARROW_NO_MEMORY || status == VORTEX_ARROW_NULL_PICK ||
+            !status, "no memory", seed);
+        expect(!status || (!out.release && !out_schema.release), "no answer", seed);
+        expect(status != VORTEX_ARROW_NO_MEMORY || strstr(error.text, "out of memory"),
+            "its words", seed);
+        answer = status ? answer : expect_same(answer, &out_schema, &out, seed);
         now = rows_of(schema, array);
         expect(!strcmp(now, rows), "the source stays", seed);
         free(now);
     }
     expect(status == VORTEX_ARROW_DONE || status == VORTEX_ARROW_NULL_PICK, "it ends", seed);
-    if (!status) {
-        out.release(&out);
-        out_schema.release(&out_schema);
-    }
+    free(answer);
 }
 
 /* Selects from a random column: all of it, by a take with a null, and by a filter of that. */

@@ -5,7 +5,7 @@ use crate::lines::{push_part, push_shown};
 use serde_json::Value;
 use std::alloc::Global;
 use std::test::Fail;
-use vx_arrow_select::{Need, Node, Refusal, Room, StepImage, room_for, select};
+use vx_arrow_select::{Need, Node, Refusal, Room, StepImage, select};
 use vx_bits::NoMemory;
 use vx_json::{bytes_of, list_member, whole_of};
 
@@ -86,24 +86,12 @@ fn lists_for(alloc: Global, need: &Need) -> Result<Lists, NoMemory> {
     })
 }
 
-/// What the rows need that the steps leave of the node.
-fn need_of(alloc: Global, node: Node<'_>, steps: &[StepImage<'_>]) -> Result<Need, Refusal> {
-    let mut needs = [Need {
-        len: 0,
-        valid: 0,
-        offsets: 0,
-        values: 0,
-        sizes: 0,
-    }];
-    room_for(alloc, &[node], steps, &mut needs)?;
-    Ok(needs[0])
-}
-
-/// Writes the rows that the steps leave of the node.
+/// Writes the rows that the steps leave of the node, and what they need.
 fn write_rows(
     alloc: Global,
     node: Node<'_>,
     steps: &[StepImage<'_>],
+    needs: &mut [Need],
     rows: &mut Lists,
 ) -> Result<(), Refusal> {
     let mut rooms = [Room {
@@ -112,7 +100,18 @@ fn write_rows(
         values: &mut rows.values,
         sizes: &mut rows.sizes,
     }];
-    select(alloc, &[node], steps, &mut rooms)
+    select(alloc, &[node], steps, needs, &mut rooms)
+}
+
+/// What a node without rows needs.
+fn no_need() -> Need {
+    Need {
+        len: 0,
+        valid: 0,
+        offsets: 0,
+        values: 0,
+        sizes: 0,
+    }
 }
 
 /// Appends the rows that were written: by `show` their validity alone.
@@ -127,7 +126,8 @@ fn push_rows(lines: &mut String, need: &Need, rows: &Lists, show: &str) -> Resul
     push_part(lines, "sizes", &rows.sizes.as_slice())
 }
 
-/// Appends the rows that the steps leave of the node, or why there are none.
+/// Appends the rows that the steps leave of the node, or why there are none. The first call says how
+/// large the lists have to be.
 fn push_selected(
     lines: &mut String,
     alloc: Global,
@@ -135,13 +135,13 @@ fn push_selected(
     steps: &[StepImage<'_>],
     show: &str,
 ) -> Result<(), Fail> {
-    let need = match need_of(alloc, node, steps) {
-        Ok(need) => need,
-        Err(refusal) => return push_shown(lines, &refusal),
-    };
-    let mut rows = lists_for(alloc, &need)?;
-    match write_rows(alloc, node, steps, &mut rows) {
-        Ok(()) => push_rows(lines, &need, &rows, show),
+    let mut needs = [no_need()];
+    let mut rows = lists_for(alloc, &needs[0])?;
+    if write_rows(alloc, node, steps, &mut needs, &mut rows).is_err() {
+        rows = lists_for(alloc, &needs[0])?;
+    }
+    match write_rows(alloc, node, steps, &mut needs, &mut rows) {
+        Ok(()) => push_rows(lines, &needs[0], &rows, show),
         Err(refusal) => push_shown(lines, &refusal),
     }
 }

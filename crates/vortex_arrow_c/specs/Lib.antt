@@ -1,5 +1,6 @@
 pub mod Answer
 pub mod Formats
 pub mod Causes
+pub mod Selected
 pub mod Steps
 pub mod Strict

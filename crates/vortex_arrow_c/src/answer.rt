@@ -1,6 +1,7 @@
 //! What each call answers.
 ghost use Rattle.std.specs.Prelude.{◌≡◌};
 ghost use Rattle.vortex_arrow_c.specs.Answer.{answer, column_answer, lack_answer, lack_code, refusal_answer};
+ghost use Rattle.vortex_arrow_c.specs.Selected.{fault_answer, selection_answer};
 ghost use Rattle.vortex_arrow_c.specs.Steps.{cause_code, step_answer, step_lack_code};
 ghost use Rattle.vortex_arrow_c.specs.Strict.{flaw_answer, rule_code};
 
@@ -199,6 +200,26 @@ impl Answer {
             },
             vx_arrow::Refusal::Room(_) => Answer::plain(ROOM),
             vx_arrow::Refusal::NoMemory => Answer::plain(NO_MEMORY),
+        }
+    }
+
+    // Why nothing is selected.
+    fn unselected(refusal: vx_arrow_select::Refusal) -> Answer
+        ensures { result ≡ fault_answer refusal }
+    {
+        match refusal {
+            vx_arrow_select::Refusal::Steps(refusal) => Answer::of_steps(refusal),
+            vx_arrow_select::Refusal::Column(refusal) => Answer::refused(refusal),
+        }
+    }
+
+    /// What a call over a column and steps answers.
+    pub(crate) fn of_selection(outcome: Result<(), vx_arrow_select::Refusal>) -> Answer
+        ensures { result ≡ selection_answer outcome }
+    {
+        match outcome {
+            Ok(()) => Answer::plain(DONE),
+            Err(refusal) => Answer::unselected(refusal),
         }
     }
 

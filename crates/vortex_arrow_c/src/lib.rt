@@ -7,7 +7,6 @@
 mod answer;
 mod causes;
 mod columns;
-mod flat;
 mod formats;
 mod steps;
 mod strict;

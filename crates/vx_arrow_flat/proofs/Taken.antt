@@ -1,5 +1,5 @@
 -- Rows written one after another, as the rows of a column at picks.
-use Rattle.std.proofs.Common.{zero, suc, ◌≡◌, ℕ, ◌+◌, ◌*◌, ◌^◌, ◌<◌, ◌≤◌, true, false, cond, List, [], ◌∷◌, ◌++◌, length, get_or, take, drop, map, Option, Some, None, ap, sym, ◌∙◌, refl, subst, arith, append_assoc}
+use Rattle.std.proofs.Common.{zero, suc, ◌≡◌, ℕ, ◌+◌, ◌*◌, ◌^◌, ◌<◌, ◌≤◌, true, false, cond, List, [], ◌∷◌, ◌++◌, length, get_or, take, drop, map, Option, Some, None, ap, sym, ◌∙◌, refl, subst, arith, append_assoc, length-append}
 use Rattle.std.specs.Prelude.{is_some, ◌||◌, if◌then◌else◌}
 use Rattle.std.proofs.lemmas.Bool.{and_from, lt-ltb}
 use Rattle.std.proofs.lemmas.List.{drop-drop, drop_at, get_or-map, length-map, take_at}
@@ -9,7 +9,8 @@ use Rattle.vx_arrow_image.specs.declared.format.Format.TheVariants.{Fixed}
 use Rattle.vx_arrow_image.specs.declared.image.Room.{Room}
 use Rattle.vx_arrow_image.specs.Image.{Part, holds_valid, is_placed, is_valid}
 use Rattle.vx_arrow_columns.specs.Answer.{AreTaken}
-use Rattle.vx_arrow_columns.specs.Picks.{Picking, place_of, pickings, shows_valid, shows_by, has_bits, keeps}
+use Rattle.vx_arrow_columns.specs.Bytes.{AreOffsetsOf, AreSizesOf, AreValuesOf, HasBytes, KeepsPast, row_in as row_in_or}
+use Rattle.vx_arrow_columns.specs.Picks.{Picking, place_of, pickings, shows_valid, shows_by, has_bits, keeps, need_of, values_len}
 use Rattle.vx_arrow_columns.specs.Planned.{IsRead, are_trees, child_lens}
 use Rattle.vx_arrow_columns.specs.Taken.{AreCopied, AreWithin, Holds, IsOwnTaken, IsReadable, IsTaken, ShowsRows, TakenAs, is_inside}
 use Rattle.vx_arrow_columns.specs.Written.{own_part, written}
@@ -46,6 +47,16 @@ row_in w src from (p ∷ places) rest (suc k) h a =
     ∙ ap (take w) (sym (drop-drop (k * w) w (rows_at w src from (p ∷ places) ++ rest)))
     ∙ ap (λ l. take w (drop (k * w) l)) (ap (drop w) (append_assoc own (rows_at w src from places) rest) ∙ drop_at own (rows_at w src from places ++ rest) w (a.whole 0 (omega arith)))
     ∙ row_in w src from places rest k (omega arith) (later w src from p places a)
+
+rows_len : (w : ℕ) (src : List ℕ) (from : ℕ) (places : List ℕ) → AreWhole w src from places → length (rows_at w src from places) ≡ length places * w
+unfolding rows_at
+rows_len w src from [] a = let e : 0 ≡ 0 * w = omega arith in e
+rows_len w src from (p ∷ places) a =
+    length-append (row w src (from + p)) (rows_at w src from places)
+    ∙ omega (arith, a.whole 0 (omega arith), rows_len w src from places (later w src from p places a), suc-mul (length places) w)
+
+same_past : (n : ℕ) (old new : List ℕ) → new ≡ old → KeepsPast n old new
+same_past n old new e = record { long = ap length e; past = ap (drop n) e }
 
 -- ---- one node
 
@@ -104,6 +115,33 @@ module _ (p : Part) (v : HasValues p) (places : List ℕ) (low : (k : ℕ) → k
 
   pub shows : ShowsRows p q.picks []
   shows = record { shows = λ k h. sym (ap (λ (o : Option ℕ). is_some (place_of p o)) (pick k h) ∙ ap is_some (place (get_or places k 0))) }
+
+  wide : (need_of p q).values ≡ length places * p.width
+  wide = ap (λ (f : Option Format). values_len f p q.picks) v.format ∙ ap (λ n. n * p.width) long
+
+  pub has_bytes : (old new : Room) → length new.values.now ≡ length old.values.now → AreWritten p.width p.values p.offset places old.values.now new.values.now
+      → new.valid ≡ old.valid → new.offsets ≡ old.offsets → new.sizes ≡ old.sizes → HasBytes p q old new
+  has_bytes old new len e sv so ss = record {
+    rows = λ own. record {
+      valid = λ b. absurd (let f : false ≡ true = sym bits ∙ b in cc);
+      offsets = subst (λ (f : Option Format). AreOffsetsOf f p q.picks new.offsets.now) (sym v.format) tt;
+      values = subst (λ (f : Option Format). AreValuesOf f p q.picks new.values.now) (sym v.format) (record {
+        rows = λ k h.
+            let at = ap (place_of p) (pick k h) ∙ place (get_or places k 0) in
+            (copied old.values.now new.values.now e).values k (p.offset + get_or places k 0) h at ∙ sym (ap (row_in_or p.width p.values) at);
+      });
+      sizes = subst (λ (f : Option Format). AreSizesOf f p q.picks new.sizes.now) (sym v.format) tt;
+    };
+    valid = same_past (need_of p q).valid old.valid.now new.valid.now (ap (λ b. b.now) sv);
+    offsets = same_past (need_of p q).offsets old.offsets.now new.offsets.now (ap (λ b. b.now) so);
+    values = record {
+      long = len;
+      past = subst (λ n. drop n new.values.now ≡ drop n old.values.now) (sym wide)
+          (ap (drop (length places * p.width)) e
+          ∙ drop_at (rows_at p.width p.values p.offset places) (drop (length places * p.width) old.values.now) (length places * p.width) (rows_len p.width p.values p.offset places whole));
+    };
+    sizes = same_past (need_of p q).sizes old.sizes.now new.sizes.now (ap (λ b. b.now) ss);
+  }
 
   module _ (old : List ℕ) (room : Room) (space : length places * p.width ≤ length room.values.now) (small : length places * p.width < 2 ^ 63) (e : AreWritten p.width p.values p.offset places old room.values.now) where
     none : (if shows_valid p q then room.valid.now else []) ≡ []

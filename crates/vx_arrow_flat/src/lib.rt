@@ -5,4 +5,4 @@
 mod selecting;
 mod writing;
 
-pub use crate::selecting::select_flat;
+pub use crate::selecting::select;

@@ -1,5 +1,5 @@
 -- Rows at composed picks are the answer.
-use Rattle.std.proofs.Common.{◌≡◌, ℕ, zero, suc, ◌+◌, ◌<◌, Bool, true, false, List, [], ◌∷◌, ◌++◌, length, map, take, drop, get_or, Option, Some, None, refl, sym, ap, ap₂, ◌∙◌, subst, arith}
+use Rattle.std.proofs.Common.{◌≡◌, ℕ, zero, suc, ◌+◌, ◌<◌, Bool, true, false, eqb, List, [], ◌∷◌, ◌++◌, length, map, take, drop, get_or, Option, Some, None, refl, sym, ap, ap₂, ◌∙◌, subst, arith}
 use Rattle.std.specs.Prelude.{is_some, if◌then◌else◌}
 use Rattle.std.proofs.lemmas.List.{append-nil, ext_get_or, get_or-map, length-map}
 use Rattle.std.proofs.Math.ListN.{drop_of_length-le}
@@ -15,22 +15,27 @@ use Rattle.vx_types.specs.declared.nullability.Nullability.TheVariants.{NonNulla
 use Rattle.vx_take.specs.Picks.{at, item_at}
 use Rattle.vx_steps.specs.Walk.{Walk, walk, walk_fault, walk_picks}
 use Rattle.vx_steps.specs.Answer.{answer_of, answer_of_walk, answer_rows, type_after}
-use Rattle.vx_arrow.specs.Answer.{IfPicks, walk_in}
+use Rattle.std.proofs.lemmas.Bool.{and_from, eqb-true, le-leb}
+use Rattle.vx_steps.specs.Compose.{takes_nullability}
+use Rattle.vx_arrow.specs.Answer.{HasNeed, IfPicks, IsRefusal, IsShort, walk_in}
+use Rattle.vx_arrow.specs.declared.refusal.Refusal.{Refusal}
+use Rattle.vx_arrow.specs.declared.refusal.Refusal.TheVariants as refusals
 use Rattle.vx_arrow.specs.Image.{StepParts, steps_in}
-use Rattle.vx_arrow.specs.Written.{ArePlaced, AreShown, need_of, place_of}
+use Rattle.vx_arrow.specs.Written.{ArePlaced, AreShown, has_room, need_of, place_of}
 use Rattle.vx_arrow_image.specs.Rows as rows
-use Rattle.vx_arrow_image.specs.Image.{is_valid, column_in, part_of, parts_of}
+use Rattle.vx_arrow_image.specs.Image.{is_valid, column_in, parts_of}
 use Rattle.vx_arrow.specs.declared.need.Need.{Need}
 use Rattle.vx_arrow_image.specs.declared.image.Node.{Node}
 use Rattle.vx_arrow_image.specs.declared.image.Room.{Room}
 use Rattle.vx_arrow_columns.specs.Answer.{MeansPicked}
 use Rattle.vx_arrow_columns.specs.Picks.{Picking, picking_of, picks_of}
 use Rattle.vx_arrow_columns.specs.Planned.{first_len}
+use Rattle.vx_arrow_columns.specs.Read.{rows_read}
 use Rattle.vx_arrow_columns.specs.Written.{written}
 use Rattle.vx_arrow_columns.proofs.PickReads.{length_picks, get_picks}
-use Rattle.vx_arrow_columns.proofs.Trees.{column_len}
+use Rattle.vx_arrow_columns.proofs.ReadTrees.{rows_first, rows_len}
 use Rattle.vx_arrow_select.specs.Rows.{model_row, model_column}
-use Rattle.vx_arrow_select.specs.Selected.{AreComposed, IsAnswer, IsSelected}
+use Rattle.vx_arrow_select.specs.Selected.{AreComposed, IsAnswer, IsSelected, IsStepFault}
 
 -- ---- the model's rows at picks
 
@@ -113,6 +118,28 @@ written_back n new old e f =
     ap (λ (rest : List ℕ). take n (new ++ rest)) (drop_of_length-le old (omega (arith, e, f)))
     ∙ ap (take n) (append-nil new) ∙ ap (λ (m : ℕ). take m new) (sym e) ∙ take-length new
 
+-- the same where the picks turn out to need just the room that there is
+pub exactly : (w : Walk) (b : Nullability) (old new bits valid : List ℕ) (need : Need) → need.places ≡ length new → eqb need.valid (length valid) ≡ true → IfPicks w (λ picks. need ≡ need_of (length picks) b)
+    → length new ≡ length old → length valid ≡ length bits → IfPicks w (λ picks. ArePlaced picks old new) → IfPicks w (λ picks. AreShown need.valid picks bits valid)
+    → IfPicks w (λ picks. picks_of new valid 0 ≡ picks)
+exactly w b old new bits valid need e f n l m p s = filled w b old new bits valid need need n n (sym l ∙ sym e) (sym (eqb-true _ _ f)) p s
+
+same_need : (w : Walk) (b : Nullability) (x y : Need) → IfPicks w (λ picks. x ≡ need_of (length picks) b) → IfPicks w (λ picks. y ≡ need_of (length picks) b) → x ≡ y
+same_need (walk_fault k cause) b x y p q = absurd p
+same_need (walk_picks picks) b x y p q = p ∙ sym q
+
+has_own : (n : Need) → has_room n n.places n.valid ≡ true
+has_own n = and_from _ _ (le-leb n.places n.places (omega arith)) (le-leb n.valid n.valid (omega arith))
+
+-- lists that are as long as the picks need are never too short
+pub never_short : (n : ℕ) (steps : List StepParts) (asked : Need) (refusal : Refusal) → HasNeed n steps asked → IsRefusal n steps (IsShort n steps asked.places asked.valid) refusal → IsStepFault n steps refusal
+never_short n steps asked (refusals.Lacking lacking) h r = r
+never_short n steps asked (refusals.Broken k cause) h r = r
+never_short n steps asked (refusals.Room need) h r =
+    let same : need ≡ asked = same_need (walk_in n steps) (takes_nullability (steps_in steps)) need asked r.needed h in
+    absurd (let f : true ≡ false = sym (ap (λ (x : Need). has_room x asked.places asked.valid) same ∙ has_own asked) ∙ r.short in cc)
+never_short n steps asked refusals.NoMemory h r = r
+
 -- ---- the answer
 
 answer_by : (w : Walk) (t : TypeTree) (xs : List rows.RowValue) (q : List (Option ℕ)) → IfPicks w (λ picks. q ≡ picks) → answer_of_walk t (model_column xs) w ≡ answer_rows t (model_column (rows.picked q xs))
@@ -123,19 +150,22 @@ answer_by (walk_picks picks) t xs q h =
 is_answer : (t : TypeTree) (xs out : List rows.RowValue) (steps : List StepParts) (found : Option (List rows.RowValue)) → found ≡ Some out → answer_of t (model_column xs) (steps_in steps) ≡ answer_rows (type_after t (steps_in steps)) (model_column out) → IsAnswer t xs steps found
 is_answer t xs out steps found e h = subst (IsAnswer t xs steps) (sym e) h
 
-first_rows : (nodes : List Node) (xs : List rows.RowValue) → column_in (parts_of nodes) ≡ Some xs → length xs ≡ first_len nodes
-first_rows [] xs e = absurd (let f : None ≡ Some xs = e in cc)
-first_rows (n ∷ nodes) xs e = column_len (part_of n) (parts_of nodes) xs e
+-- what is found is the rows at composed picks
+answer_at : (nodes : List Node) (steps : List StepParts) (q : Picking) (t : TypeTree) (xs : List rows.RowValue) (found : Option (List rows.RowValue)) → IfPicks (walk_in (first_len nodes) steps) (λ picks. q.picks ≡ picks) → length xs ≡ first_len nodes → found ≡ Some (rows.picked q.picks xs) → IsAnswer t xs steps found
+answer_at nodes steps q t xs found c len e =
+    is_answer t xs (rows.picked q.picks xs) steps found e
+    (answer_by (walk (length (model_column xs)) (steps_in steps)) (type_after t (steps_in steps)) xs q.picks
+    (subst (λ (n : ℕ). IfPicks (walk_in n steps) (λ picks. q.picks ≡ picks)) (sym (length-map xs model_row ∙ len)) c))
 
 pub answered : (nodes : List Node) (steps : List StepParts) (q : Picking) (rooms : List Room) → IfPicks (walk_in (first_len nodes) steps) (λ picks. q.picks ≡ picks) → MeansPicked (parts_of nodes) q rooms → IsSelected nodes steps rooms
-answered nodes steps q rooms c m = record {
-  picks = q;
-  composed = c;
-  answer = λ xs t e.
-      is_answer t xs (rows.picked q.picks xs) steps (column_in (written (parts_of nodes) q rooms)) (m.picked xs e)
-      (answer_by (walk (length (model_column xs)) (steps_in steps)) (type_after t (steps_in steps)) xs q.picks
-      (subst (λ (n : ℕ). IfPicks (walk_in n steps) (λ picks. q.picks ≡ picks)) (sym (length-map xs model_row ∙ first_rows nodes xs e)) c));
-}
+answered nodes steps q rooms c m =
+    let found = column_in (written (parts_of nodes) q rooms) in
+    record {
+      picks = q;
+      composed = c;
+      read = λ t kept. answer_at nodes steps q t (rows_read (parts_of nodes)) found c (rows_len nodes) (m.read kept);
+      answer = λ xs t e. answer_at nodes steps q t xs found c (rows_first nodes xs e) (m.picked xs e);
+    }
 
 -- composed picks, by lists and a length that equal theirs
 pub composed_by : (n m : ℕ) (steps : List StepParts) (places ps valid vs : List ℕ) → n ≡ m → ps ≡ places → vs ≡ valid → AreComposed n steps (picking_of places valid 0) → AreComposed m steps (picking_of ps vs 0)

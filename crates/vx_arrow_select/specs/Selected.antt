@@ -1,5 +1,5 @@
 -- What steps leave of a column in memory.
-use Rattle.std.specs.Prelude.{◌≡◌, ⊤, ℕ, List, Option, Some, None}
+use Rattle.std.specs.Prelude.{◌≡◌, ⊤, ℕ, false, List, Option, Some, None}
 use Rattle.vx_types.specs.TypeTree.{TypeTree}
 use Rattle.vx_steps.specs.Answer.{answer_of, answer_rows, type_after}
 use Rattle.vx_arrow.specs.Answer.{AreMeant, IfPicks, IsBroken, walk_in}
@@ -11,10 +11,13 @@ use Rattle.vx_arrow_image.specs.declared.image.Node.{Node}
 use Rattle.vx_arrow_image.specs.declared.image.Room.{Room}
 use Rattle.vx_arrow_image.specs.declared.refusal.Refusal as columns
 use Rattle.vx_arrow_image.specs.Rows as rows
-use Rattle.vx_arrow_columns.specs.Answer as column_unmeant
+use Rattle.vx_arrow_columns.specs.Answer as columns_told
+use Rattle.vx_arrow_columns.specs.Answer.{AreKeptSound}
 use Rattle.vx_arrow_image.specs.Image.{column_in, parts_of}
+use Rattle.vx_arrow_columns.specs.Bytes.{HaveBytes}
 use Rattle.vx_arrow_columns.specs.Picks.{Picking, needs_of}
 use Rattle.vx_arrow_columns.specs.Planned.{first_len}
+use Rattle.vx_arrow_columns.specs.Read.{rows_read}
 use Rattle.vx_arrow_columns.specs.Written.{written}
 use Rattle.vx_arrow_select.specs.declared.refusal.Refusal.{Refusal}
 use Rattle.vx_arrow_select.specs.declared.refusal.Refusal.TheVariants.{Steps, Column}
@@ -38,20 +41,32 @@ IsAnswer t xs steps (Some out) =
     answer_of t (model_column xs) (steps_in steps)
     ≡ answer_rows (type_after t (steps_in steps)) (model_column out)
 
--- the rooms hold the answer to the steps: where the table means rows, the very rows that `select`
--- answers, of whatever type they are
+-- the rooms hold the very rows that `select` answers to the steps over those that the table's lists
+-- read, of whatever type they are: where what is kept is sound, whatever the steps drop, and where
+-- the table means rows
 pub record IsSelected (nodes : List Node) (steps : List StepParts) (rooms : List Room)
     : Type 0 where
   pub picks : Picking
   pub composed : AreComposed (first_len nodes) steps picks
+  pub read : (t : TypeTree) → AreKeptSound (parts_of nodes) picks
+      → IsAnswer t (rows_read (parts_of nodes)) steps
+      (column_in (written (parts_of nodes) picks rooms))
   pub answer : (xs : List rows.RowValue) → (t : TypeTree) → column_in (parts_of nodes) ≡ Some xs
       → IsAnswer t xs steps (column_in (written (parts_of nodes) picks rooms))
+
+-- the rooms have the bytes of the rows that the steps leave, and no others changed
+pub record AreFilled (nodes : List Node) (steps : List StepParts) (old new : List Room)
+    : Type 0 where
+  pub picks : Picking
+  pub composed : AreComposed (first_len nodes) steps picks
+  pub taken : picks.kept ≡ false
+  pub bytes : HaveBytes (parts_of nodes) picks old new
 
 -- why the steps leave nothing of n rows
 abbrev pub IsStepFault : ℕ → List StepParts → steps_refused.Refusal → Type 0
 IsStepFault n steps (step_refusals.Lacking lacking) = first_lack 0 steps ≡ Some lacking
 IsStepFault n steps (step_refusals.Broken k cause) = IsBroken n steps k cause
-IsStepFault n steps (step_refusals.Room need) = AreMeant steps
+IsStepFault n steps (step_refusals.Room need) = ⊥
 IsStepFault n steps step_refusals.NoMemory = AreMeant steps
 
 -- each image of a step has a meaning, none is broken, and this holds of the picks that they leave
@@ -68,7 +83,13 @@ abbrev pub IsFault : List Node → List StepParts → (Picking → columns.Refus
 IsFault nodes steps R (Steps refusal) = IsStepFault (first_len nodes) steps refusal
 IsFault nodes steps R (Column refusal) = ArePicked nodes steps (λ picks. R picks refusal)
 
+-- the needs after an error: what the rows take where a room is too small, and else as they were
+abbrev pub AreTold : List Node → List StepParts → List Need → List Need → ℕ → Refusal → Type 0
+AreTold nodes steps old new rooms (Steps refusal) = new ≡ old
+AreTold nodes steps old new rooms (Column refusal) =
+    ArePicked nodes steps (λ picks. columns_told.AreTold (parts_of nodes) picks old new rooms refusal)
+
 -- a column is said to have no meaning only where the table means none
 abbrev pub IsUnmeant : Option (List rows.RowValue) → Refusal → Type 0
 IsUnmeant column (Steps refusal) = ⊤
-IsUnmeant column (Column refusal) = column_unmeant.IsUnmeant column refusal
+IsUnmeant column (Column refusal) = columns_told.IsUnmeant column refusal

@@ -6,6 +6,6 @@ mod refusal;
 mod selecting;
 
 pub use refusal::Refusal;
-pub use selecting::{room_for, select};
+pub use selecting::select;
 pub use vx_arrow::StepImage;
 pub use vx_arrow_columns::{Need, Node, Room};

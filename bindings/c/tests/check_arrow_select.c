@@ -1,6 +1,6 @@
-/* Selects rows of single nodes by vortex_arrow_select_flat, and compares each byte of the room with
- * what a plain loop says. Then it makes calls that aren't served, after which the room must be as it
- * was. Prints `c: N passed, M failed`. */
+/* Selects rows of single nodes by vortex_arrow_select, and compares each byte of the room with what
+ * a plain loop says. Then it makes calls that fail, after which the room must be as it was. Prints
+ * `c: N passed, M failed`. */
 #include <stdlib.h>
 #include <string.h>
 
@@ -54,14 +54,23 @@ static void refill(void)
     }
 }
 
-static uint64_t call(const vortex_arrow_node *nodes, size_t n_nodes,
+static vortex_arrow_need needs[2];
+
+static vortex_arrow_answer call(const vortex_arrow_node *nodes, size_t n_nodes,
     const vortex_arrow_step *steps, size_t n_steps, size_t room_len)
 {
-    vortex_arrow_room room;
-    memset(&room, 0, sizeof room);
-    room.values.data = room_bytes;
-    room.values.len = room_len;
-    return vortex_arrow_select_flat(nodes, n_nodes, steps, n_steps, &room);
+    vortex_arrow_room rooms[2];
+    memset(rooms, 0, sizeof rooms);
+    rooms[0].values.data = room_bytes;
+    rooms[0].values.len = room_len;
+    memset(needs, 0xee, sizeof needs);
+    return vortex_arrow_select(nodes, n_nodes, steps, n_steps, needs, n_nodes, rooms, n_nodes);
+}
+
+static int is_need(const vortex_arrow_need *need, uint64_t rows, uint64_t bytes)
+{
+    return need->len == rows && need->values == bytes && !need->valid && !need->offsets &&
+        !need->sizes;
 }
 
 /* Expects these rows in the room, and what it held behind them. */
@@ -73,12 +82,15 @@ static void expect_rows(const vortex_arrow_node *node, const vortex_arrow_step *
     for (k = 0; k < count; k++) {
         memcpy(wanted + k * width, source + (node->offset + rows[k]) * width, width);
     }
-    expect(call(node, 1, step, 1, count * width) == VORTEX_ARROW_DONE, what, seed);
+    expect(call(node, 1, step, 1, count * width).status == VORTEX_ARROW_DONE, what, seed);
     expect(!memcmp(room_bytes, wanted, ROOM), what, seed);
+    expect(is_need(needs, count, count * width), "a need", seed);
     refill();
     if (count) {
-        expect(call(node, 1, step, 1, count * width - 1) == 1, "a short room", seed);
+        vortex_arrow_answer answer = call(node, 1, step, 1, count * width - 1);
+        expect(answer.status == VORTEX_ARROW_ROOM && !answer.node_or_step, "a short room", seed);
         expect(!memcmp(room_bytes, wanted, ROOM), "a short room is kept", seed);
+        expect(is_need(needs, count, count * width), "the need of a short room", seed);
     }
 }
 
@@ -150,73 +162,93 @@ static void takes(const vortex_arrow_node *node)
         expect_rows(node, &step, rows, count, "a take");
         if (count) {
             put_number(count / 2, sizes[ptype], UINT64_MAX);
-            expect(node->len > 255 || call(node, 1, &step, 1, ROOM) == 1, "out of bounds", ptype);
+            expect(call(node, 1, &step, 1, ROOM).status == VORTEX_ARROW_BROKEN, "out of bounds",
+                ptype);
             expect(!memcmp(room_bytes, wanted, ROOM), "out of bounds keeps the room", ptype);
         }
     }
 }
 
-static void unserved(const char *what, const vortex_arrow_node *nodes, size_t n_nodes,
-    const vortex_arrow_step *steps, size_t n_steps)
+/* Expects a status, a node or a step, and what is wrong with it. */
+static void fails(const char *what, const vortex_arrow_node *nodes, size_t n_nodes,
+    const vortex_arrow_step *step, uint64_t status, uint64_t place, uint64_t cause)
 {
-    expect(call(nodes, n_nodes, steps, n_steps, ROOM) == 1, what, 0);
-    expect(!memcmp(room_bytes, wanted, ROOM), what, 1);
+    vortex_arrow_answer answer = call(nodes, n_nodes, step, 1, ROOM);
+    expect(answer.status == status, what, 0);
+    expect(answer.node_or_step == place, what, 1);
+    expect(answer.what == cause, what, 2);
+    expect(!memcmp(room_bytes, wanted, ROOM), what, 3);
+    expect(needs[0].len == 0xeeeeeeeeeeeeeeee, what, 4);
 }
 
-static void columns_that_are_not_served(void)
+static void invalid_columns(void)
 {
     vortex_arrow_node good = node_of(4, 10, 3), nodes[2], bad;
-    vortex_arrow_step step = step_of(VORTEX_ARROW_SLICE, 0, 0, 0);
+    vortex_arrow_step step = step_of(VORTEX_ARROW_SLICE, 0, 0, 0), none = step;
     step.end = 5;
     nodes[0] = nodes[1] = good;
-    unserved("no node", nodes, 0, &step, 1);
-    unserved("two nodes", nodes, 2, &step, 1);
-    bad = good, bad.format = VORTEX_ARROW_BITS;
-    unserved("bits", &bad, 1, &step, 1);
+    fails("no node", nodes, 0, &none, 1, 0, VORTEX_ARROW_LACKS_TREE);
+    fails("two trees", nodes, 2, &step, 1, 1, VORTEX_ARROW_LACKS_TREE);
     bad = good, bad.format = 99;
-    unserved("an unknown format", &bad, 1, &step, 1);
-    bad = good, bad.width = 3;
-    unserved("a width of 3", &bad, 1, &step, 1);
+    fails("an unknown format", &bad, 1, &step, VORTEX_ARROW_FORMAT, 0, 0);
     bad = good, bad.children = 1;
-    unserved("a child", &bad, 1, &step, 1);
-    bad = good, bad.valid.data = source, bad.valid.len = 2;
-    unserved("validity", &bad, 1, &step, 1);
+    fails("a child that isn't there", &bad, 1, &step, 1, 0, VORTEX_ARROW_LACKS_TREE);
+    bad = good, bad.valid.data = source, bad.valid.len = 1;
+    fails("too little validity", &bad, 1, &step, 1, 0, VORTEX_ARROW_LACKS_VALID);
     bad = good, bad.values.len--;
-    unserved("too few values", &bad, 1, &step, 1);
+    fails("too few values", &bad, 1, &step, 1, 0, VORTEX_ARROW_LACKS_VALUES);
     bad = good, bad.offset = UINT64_MAX;
-    unserved("an offset past 2^60", &bad, 1, &step, 1);
+    fails("an offset past 2^60", &bad, 1, &step, 1, 0, VORTEX_ARROW_LACKS_ROWS);
     bad = good, bad.len = UINT64_MAX;
-    unserved("rows past 2^60", &bad, 1, &step, 1);
+    fails("rows past 2^60", &bad, 1, &step, 1, 0, VORTEX_ARROW_LACKS_ROWS);
 }
 
-static void steps_that_are_not_served(void)
+static void invalid_steps(void)
 {
     vortex_arrow_node node = node_of(4, 10, 3);
-    vortex_arrow_step steps[2], bad;
-    steps[0] = steps[1] = step_of(VORTEX_ARROW_SLICE, 0, 0, 0);
+    vortex_arrow_step slice = step_of(VORTEX_ARROW_SLICE, 0, 0, 0), bad;
     memset(list, 0, sizeof list);
-    unserved("no step", &node, 1, steps, 0);
-    unserved("two steps", &node, 1, steps, 2);
-    bad = steps[0], bad.kind = 4;
-    unserved("an unknown kind", &node, 1, &bad, 1);
-    bad = steps[0], bad.end = 11;
-    unserved("a slice past the rows", &node, 1, &bad, 1);
-    bad = steps[0], bad.start = 5, bad.end = 4;
-    unserved("a slice that ends before its start", &node, 1, &bad, 1);
+    bad = slice, bad.kind = 4;
+    fails("an unknown kind", &node, 1, &bad, VORTEX_ARROW_LACKING, 0, 0);
+    bad = slice, bad.end = 11;
+    fails("a slice past the rows", &node, 1, &bad, VORTEX_ARROW_BROKEN, 0, 0);
+    bad = slice, bad.start = 5, bad.end = 4;
+    fails("a slice that ends before its start", &node, 1, &bad, VORTEX_ARROW_BROKEN, 0, 0);
     bad = step_of(VORTEX_ARROW_FILTER, 0, 0, 9);
-    unserved("a mask that is too short", &node, 1, &bad, 1);
+    fails("a short mask", &node, 1, &bad, VORTEX_ARROW_BROKEN, 0, VORTEX_ARROW_BAD_MASK);
     bad = step_of(VORTEX_ARROW_FILTER, 0, 0, 10), bad.values.len = 1;
-    unserved("a mask without its last bits", &node, 1, &bad, 1);
-    bad = step_of(VORTEX_ARROW_FILTER, 0, 0, 10), bad.valid = bad.values;
-    unserved("a mask with validity", &node, 1, &bad, 1);
+    fails("a mask without its last bits", &node, 1, &bad, VORTEX_ARROW_LACKING, 0, 3);
     bad = step_of(VORTEX_ARROW_TAKE, VORTEX_ARROW_F64, 0, 1);
-    unserved("floats", &node, 1, &bad, 1);
-    bad = step_of(VORTEX_ARROW_TAKE, VORTEX_ARROW_U8, 0, 1), bad.valid = bad.values;
-    unserved("indices with validity", &node, 1, &bad, 1);
+    fails("floats", &node, 1, &bad, VORTEX_ARROW_BROKEN, 0, VORTEX_ARROW_INVALID_INDICES);
     bad = step_of(VORTEX_ARROW_TAKE, VORTEX_ARROW_U8, UINT64_MAX, 1);
-    unserved("an offset past the indices", &node, 1, &bad, 1);
-    bad = step_of(VORTEX_ARROW_TAKE_PIECES, 0, 0, 0);
-    unserved("ranges", &node, 1, &bad, 1);
+    fails("an offset past the indices", &node, 1, &bad, VORTEX_ARROW_LACKING, 0, 2);
+}
+
+/* Expects ROOM, and no need, where the counts differ. */
+static void counts(size_t n_needs, size_t n_rooms)
+{
+    vortex_arrow_node node = node_of(4, 10, 3);
+    vortex_arrow_step step = step_of(VORTEX_ARROW_SLICE, 0, 0, 0);
+    vortex_arrow_room rooms[2];
+    vortex_arrow_answer answer;
+    memset(rooms, 0, sizeof rooms);
+    memset(needs, 0xee, sizeof needs);
+    answer = vortex_arrow_select(&node, 1, &step, 1, needs, n_needs, rooms, n_rooms);
+    expect(answer.status == VORTEX_ARROW_ROOM, "counts that differ", n_needs);
+    expect(answer.node_or_step == 1, "no node is named", n_rooms);
+    expect(needs[0].len == 0xeeeeeeeeeeeeeeee, "no need is written", n_rooms);
+}
+
+/* Expects a guess of a node's needs, of 8 rows of 16. */
+static void guesses(uint64_t format, uint64_t width, uint64_t is_nullable, uint64_t valid,
+    uint64_t values)
+{
+    vortex_arrow_node node = node_of(width, 16, 0);
+    vortex_arrow_need need;
+    node.format = format;
+    expect(vortex_arrow_guess(&node, 1, 8, is_nullable, &need, 1) == VORTEX_ARROW_DONE, "guess",
+        format);
+    expect(need.len == 8 && need.valid == valid && need.values == values, "a guess", format);
 }
 
 int main(void)
@@ -233,7 +265,14 @@ int main(void)
             }
         }
     }
-    columns_that_are_not_served();
-    steps_that_are_not_served();
+    invalid_columns();
+    invalid_steps();
+    counts(0, 1);
+    counts(1, 0);
+    counts(2, 1);
+    guesses(VORTEX_ARROW_NULL, 0, 1, 0, 0);
+    guesses(VORTEX_ARROW_BITS, 0, 0, 0, 1);
+    guesses(VORTEX_ARROW_FIXED, 5, 1, 1, 40);
+    guesses(VORTEX_ARROW_VIEWS, 0, 0, 0, 128);
     return report();
 }
