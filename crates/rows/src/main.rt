@@ -1,5 +1,5 @@
-//! The program: it hands its arguments, standard input and standard output to [`run`], and ends with
-//! the status. From 1 on a line on standard error says what is wrong.
+//! The program: it hands its arguments, standard input and standard output to [`run`], and ends
+//! with the status. From 1 on a line on standard error says what is wrong.
 #![tactic(auto)]
 
 ghost use Rattle.std.specs.Prelude.{◌≤◌, ◌↔◌, IsSome};

@@ -1,4 +1,5 @@
 //! Rows with their answers, as they are read.
+ghost use Rattle.std.specs.Prelude.{◌≡◌, [], None, OnOk, string_bytes};
 
 use crate::family::Family;
 use std::alloc::Global;
@@ -23,7 +24,11 @@ pub struct Reading {
 
 impl Reading {
     /// Nothing read.
-    pub fn new(alloc: Global) -> Reading {
+    pub fn new(alloc: Global) -> Reading
+        ensures row { result.row ≡ None }
+        ensures told { string_bytes result.told ≡ [] }
+        ensures family { result.family ≡ None }
+    {
         Reading {
             row: None,
             told: String::new(alloc),
@@ -50,7 +55,10 @@ impl Reading {
     }
 
     /// Judges the last row, and ends the last family.
-    pub fn end<A: Ask>(&mut self, rt: &impl Print, alloc: Global) -> Result<(), Fail> {
+    pub fn end<A: Ask>(&mut self, rt: &impl Print, alloc: Global) -> Result<(), Fail>
+        ensures row { OnOk result (self.new.row ≡ None) }
+        ensures family { OnOk result (self.new.family ≡ None) }
+    {
         self.judge_row::<A>(rt, alloc)?;
         self.end_family(rt)
     }
@@ -71,7 +79,10 @@ impl Reading {
     }
 
     /// Prints how the rows of the last family were.
-    fn end_family(&mut self, rt: &impl Print) -> Result<(), Fail> {
+    fn end_family(&mut self, rt: &impl Print) -> Result<(), Fail>
+        ensures row { self.new.row ≡ self.old.row }
+        ensures family { self.new.family ≡ None }
+    {
         match self.family.take() {
             Some(family) => family.print_count(rt),
             None => Ok(()),
@@ -79,7 +90,9 @@ impl Reading {
     }
 
     /// Judges the last row, if any.
-    fn judge_row<A: Ask>(&mut self, rt: &impl Print, alloc: Global) -> Result<(), Fail> {
+    fn judge_row<A: Ask>(&mut self, rt: &impl Print, alloc: Global) -> Result<(), Fail>
+        ensures { OnOk result (self.new.row ≡ None) }
+    {
         let Some(row) = self.row.take() else {
             return Ok(());
         };
@@ -90,7 +103,9 @@ impl Reading {
     }
 
     /// Counts a row that gave these lines.
-    fn count_row(&mut self, rt: &impl Print, row: &str, given: &str) -> Result<(), Fail> {
+    fn count_row(&mut self, rt: &impl Print, row: &str, given: &str) -> Result<(), Fail>
+        ensures { self.new.row ≡ self.old.row }
+    {
         match &mut self.family {
             Some(family) => family.judge(rt, row, self.told.as_str(), given),
             None => Err("a row below no heading".into()),

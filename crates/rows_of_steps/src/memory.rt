@@ -126,8 +126,8 @@ fn push_rows(lines: &mut String, need: &Need, rows: &Lists, show: &str) -> Resul
     push_part(lines, "sizes", &rows.sizes.as_slice())
 }
 
-/// Appends the rows that the steps leave of the node, or why there are none. The first call says how
-/// large the lists have to be.
+/// Appends the rows that the steps leave of the node, or why there are none. The first call says
+/// how large the lists have to be.
 fn push_selected(
     lines: &mut String,
     alloc: Global,

@@ -12,10 +12,10 @@ use vx_arrow_strict::{Extra, Node, first_flaw, has_codes};
 /// Tests the rules that are stricter than what a table means, which `vortex_arrow_check` tests.
 /// `extras` has an item for each node.
 ///
-/// The status is 0 exactly where no node breaks a rule. Else it is 1, with the first node that breaks
-/// one, and `what` is the first rule that it breaks, in this order: 17 the number of nulls, 16 the
-/// codes of a dictionary, 18 the entries of a map, 19 string views, 20 list views, 21 the offsets of
-/// a dense union. It doesn't allocate.
+/// The status is 0 exactly where no node breaks a rule. Else it is 1, with the first node that
+/// breaks one, and `what` is the first rule that it breaks, in this order: 17 the number of nulls,
+/// 16 the codes of a dictionary, 18 the entries of a map, 19 string views, 20 list views, 21 the
+/// offsets of a dense union. It doesn't allocate.
 #[unsafe(no_mangle)]
 pub extern "C" fn vortex_arrow_check_strict(nodes: &[Node], extras: &[Extra]) -> Answer
     ensures strict { result.status ≡ 0 → IsStrict (parts_of nodes.now) extras.now }

@@ -63,8 +63,8 @@ fn need_for(node: &Node, picks: &KnownPicks) -> Need
     }
 }
 
-/// Writes the rows that a single step leaves of a column of one node to a room, and returns how many
-/// rows and bytes they are.
+/// Writes the rows that a single step leaves of a column of one node to a room, and returns how
+/// many rows and bytes they are.
 ///
 /// It serves values of 1, 2, 4, 8, 16 or 32 bytes without nulls, and a slice, a filter or a take by
 /// integers without nulls. It returns `None` exactly for every other column or list of steps, if

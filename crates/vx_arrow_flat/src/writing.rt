@@ -28,7 +28,9 @@ macro_rules! at_integers {
 }
 
 macro_rules! at_width {
-    ($ptype:ident, $width:literal, $numbers:expr, $row:ident, $rows:expr, $node:expr, $out:expr) => {
+    (
+        $ptype:ident, $width:literal, $numbers:expr, $row:ident, $rows:expr, $node:expr, $out:expr
+    ) => {
         write_at_numbers::<$width, $row>(
             PType::$ptype,
             $numbers.records::<$width>(),

@@ -87,7 +87,8 @@ IsFault nodes steps R (Column refusal) = ArePicked nodes steps (λ picks. R pick
 abbrev pub AreTold : List Node → List StepParts → List Need → List Need → ℕ → Refusal → Type 0
 AreTold nodes steps old new rooms (Steps refusal) = new ≡ old
 AreTold nodes steps old new rooms (Column refusal) =
-    ArePicked nodes steps (λ picks. columns_told.AreTold (parts_of nodes) picks old new rooms refusal)
+    ArePicked nodes steps
+    (λ picks. columns_told.AreTold (parts_of nodes) picks old new rooms refusal)
 
 -- a column is said to have no meaning only where the table means none
 abbrev pub IsUnmeant : Option (List rows.RowValue) → Refusal → Type 0

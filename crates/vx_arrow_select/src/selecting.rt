@@ -138,7 +138,8 @@ fn counted(alloc: Global, len: usize, steps: &[StepImage]) -> Result<Places, vx_
     Ok(Places { places, valid })
 }
 
-// The picks that the steps leave of `len` rows. Those of a take at the end needn't be counted first.
+// The picks that the steps leave of `len` rows. Those of a take at the end needn't be counted
+// first.
 fn composed(alloc: Global, len: usize, steps: &[StepImage]) -> Result<Places, vx_arrow::Refusal>
     ensures picks { IfOk result (λ c. AreComposed len (map step_parts steps.now)
         (picking_of c.places.items c.valid.items 0)) }

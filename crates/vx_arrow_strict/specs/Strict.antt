@@ -12,7 +12,8 @@ use Rattle.vx_arrow_strict.specs.Maps.{absent, maps_hold}
 use Rattle.vx_arrow_strict.specs.Nulls.{counts_nulls}
 use Rattle.vx_arrow_strict.specs.Texts.{texts_hold}
 
--- the first rule that a node breaks, with the nodes behind it; without an extra it is the first rule
+-- the first rule that a node breaks, with the nodes behind it; without an extra it is the first
+-- rule
 unfoldable pub flaw_of : Part → Option Extra → List Part → Option Rule
 flaw_of p None below = Some rules.NullCount
 flaw_of p (Some x) below =

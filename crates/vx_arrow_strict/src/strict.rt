@@ -93,8 +93,9 @@ fn flaw_at(nodes: &[Node], extras: &[Extra], k: usize) -> Option<Rule>
 /// Returns the first node that breaks a rule, with the first rule that it breaks, or `None` where
 /// no node does.
 ///
-/// `extras` has an item for each node, in order. A node without one breaks the first rule. The rules
-/// are those of [`Rule`], in order. Each test fails where a node's buffers are too short for it.
+/// `extras` has an item for each node, in order. A node without one breaks the first rule. The
+/// rules are those of [`Rule`], in order. Each test fails where a node's buffers are too short for
+/// it.
 pub fn first_flaw(nodes: &[Node], extras: &[Extra]) -> Option<Flaw>
     ensures strict { IfNone result (IsStrict (parts_of nodes.now) extras.now) }
     ensures flaw { IfSome result (IsFirstFlaw (parts_of nodes.now) extras.now) }

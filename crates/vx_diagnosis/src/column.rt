@@ -89,32 +89,36 @@ fn look_at_decimal<'v>(
     look_at_members(alloc, place, value, &rules, &DECIMAL)
 }
 
+// Looks at a column of strings that names no type of strings.
+fn look_at_text_type<'v>(
+    alloc: Global,
+    place: &mut Place,
+    value: &'v Value,
+) -> Result<Look<'v>, NoMemory> {
+    let others = [
+        "layout",
+        "values",
+        "validity",
+        "offsets",
+        "offset_type",
+        "bytes",
+        "views",
+        "buffers",
+    ];
+    let rule = needed("type", Kind::TextType);
+    look_at_members(alloc, place, value, &[rule], &others)
+}
+
 fn look_at_texts<'v>(
     alloc: Global,
     place: &mut Place,
     value: &'v Value,
     view_layout: bool,
 ) -> Result<Look<'v>, NoMemory> {
-    let (validity, others) = (optional("validity", Kind::Validity), ["layout", "type"]);
     let Some(kind) = text_kind_in(value) else {
-        let others = [
-            "layout",
-            "values",
-            "validity",
-            "offsets",
-            "offset_type",
-            "bytes",
-            "views",
-            "buffers",
-        ];
-        return look_at_members(
-            alloc,
-            place,
-            value,
-            &[needed("type", Kind::TextType)],
-            &others,
-        );
+        return look_at_text_type(alloc, place, value);
     };
+    let (validity, others) = (optional("validity", Kind::Validity), ["layout", "type"]);
     if view_layout && value.get("views").is_some() {
         let rules = [
             needed("views", Kind::Views),
@@ -184,6 +188,20 @@ fn look_at_constant<'v>(
     look_at_members(alloc, place, value, &rules, &["layout", "type"])
 }
 
+fn look_at_struct<'v>(
+    alloc: Global,
+    place: &mut Place,
+    value: &'v Value,
+) -> Result<Look<'v>, NoMemory> {
+    let rules = [
+        needed("len", LEN),
+        needed("names", Kind::Names),
+        needed("fields", Kind::Columns),
+        optional("validity", Kind::Validity),
+    ];
+    look_at_members(alloc, place, value, &rules, &["layout"])
+}
+
 fn look_at_union<'v>(
     alloc: Global,
     place: &mut Place,
@@ -197,6 +215,17 @@ fn look_at_union<'v>(
         optional("offset_type", Kind::NumberType),
     ];
     look_at_members(alloc, place, value, &rules, &["layout"])
+}
+
+// Looks at a column of no known layout.
+fn look_at_unknown<'v>(place: &mut Place, value: &'v Value) -> Result<Look<'v>, NoMemory> {
+    match value.get("layout") {
+        Some(named) => {
+            place.member("layout")?;
+            Ok(Look::Expected("the name of a layout", named))
+        }
+        None => Ok(Look::Missing("layout")),
+    }
 }
 
 fn look_at_lists<'v>(
@@ -232,13 +261,7 @@ fn look_at_lists<'v>(
         let rules = [elements, validity, size, needed("len", LEN)];
         return look_at_members(alloc, place, value, &rules, &["layout"]);
     }
-    match value.get("layout") {
-        Some(named) => {
-            place.member("layout")?;
-            Ok(Look::Expected("the name of a layout", named))
-        }
-        None => Ok(Look::Missing("layout")),
-    }
+    look_at_unknown(place, value)
 }
 
 // Looks at a column that has others in it.
@@ -268,15 +291,7 @@ fn look_at_nested<'v>(
             &[needed("entries", Kind::Column)],
             &others,
         ),
-        "Struct" => {
-            let rules = [
-                needed("len", LEN),
-                needed("names", Kind::Names),
-                needed("fields", Kind::Columns),
-                optional("validity", Kind::Validity),
-            ];
-            look_at_members(alloc, place, value, &rules, &others)
-        }
+        "Struct" => look_at_struct(alloc, place, value),
         "Union" => look_at_union(alloc, place, value),
         "Extension" => {
             let rules = [needed("name", Kind::Name), needed("storage", Kind::Column)];
@@ -315,25 +330,44 @@ pub(crate) fn look_at_column<'v>(
     }
 }
 
-/// Looks at a column behind a decoder.
-pub(crate) fn look_at_chunks<'v>(
+// Looks at a column behind a decoder whose type is named. `values` says what stands for its values.
+fn look_at_typed_chunks<'v>(
+    alloc: Global,
+    place: &mut Place,
+    value: &'v Value,
+    values: Rule,
+    others: &[&str],
+) -> Result<Look<'v>, NoMemory> {
+    let rules = [
+        optional("validity", Kind::Validity),
+        needed("offset", Kind::Whole(1023)),
+        needed("len", LEN),
+        values,
+    ];
+    look_at_members(alloc, place, value, &rules, others)
+}
+
+// Looks at decimals behind a decoder.
+fn look_at_decimal_chunks<'v>(
     alloc: Global,
     place: &mut Place,
     value: &'v Value,
 ) -> Result<Look<'v>, NoMemory> {
-    let (validity, offset, len) = (
-        optional("validity", Kind::Validity),
-        needed("offset", Kind::Whole(1023)),
-        needed("len", LEN),
-    );
-    if let Some(ptype) = ptype_in(value) {
-        if value.get("ramp").is_some() {
-            let rules = [validity, offset, len, needed("ramp", LEN)];
-            return look_at_members(alloc, place, value, &rules, &["type"]);
-        }
-        let rules = [validity, offset, len, needed("values", Kind::Values(ptype))];
-        return look_at_members(alloc, place, value, &rules, &["type"]);
-    }
+    let Some(width) = width_in(value) else {
+        let others = ["type", "offset", "len", "values", "validity"];
+        return look_at_members(alloc, place, value, &decimal_rules(), &others);
+    };
+    let values = needed("values", Kind::Records(width));
+    let others = ["type", "precision", "scale", "width"];
+    look_at_typed_chunks(alloc, place, value, values, &others)
+}
+
+// Looks at a column behind a decoder that names no type of chunks.
+fn look_at_chunk_type<'v>(
+    alloc: Global,
+    place: &mut Place,
+    value: &'v Value,
+) -> Result<Look<'v>, NoMemory> {
     let others = [
         "offset",
         "len",
@@ -344,31 +378,26 @@ pub(crate) fn look_at_chunks<'v>(
         "scale",
         "width",
     ];
+    let rule = needed("type", Kind::ChunkType);
+    look_at_members(alloc, place, value, &[rule], &others)
+}
+
+/// Looks at a column behind a decoder.
+pub(crate) fn look_at_chunks<'v>(
+    alloc: Global,
+    place: &mut Place,
+    value: &'v Value,
+) -> Result<Look<'v>, NoMemory> {
+    if let Some(ptype) = ptype_in(value) {
+        let values = if value.get("ramp").is_some() {
+            needed("ramp", LEN)
+        } else {
+            needed("values", Kind::Values(ptype))
+        };
+        return look_at_typed_chunks(alloc, place, value, values, &["type"]);
+    }
     match text_at(value, "type") {
-        Some("decimal") => match width_in(value) {
-            Some(width) => {
-                let rules = [
-                    validity,
-                    offset,
-                    len,
-                    needed("values", Kind::Records(width)),
-                ];
-                look_at_members(
-                    alloc,
-                    place,
-                    value,
-                    &rules,
-                    &["type", "precision", "scale", "width"],
-                )
-            }
-            None => {
-                let others = ["type", "offset", "len", "values", "validity"];
-                look_at_members(alloc, place, value, &decimal_rules(), &others)
-            }
-        },
-        _ => {
-            let rule = needed("type", Kind::ChunkType);
-            look_at_members(alloc, place, value, &[rule], &others)
-        }
+        Some("decimal") => look_at_decimal_chunks(alloc, place, value),
+        _ => look_at_chunk_type(alloc, place, value),
     }
 }

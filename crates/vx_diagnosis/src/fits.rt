@@ -142,8 +142,8 @@ fn are_views(alloc: Global, value: &Value) -> Result<bool, NoMemory> {
     }
 }
 
-/// Whether a value is of its kind. A document, chunks, a step and ranges never are: what is wrong of
-/// them is looked for inside.
+/// Whether a value is of its kind. A document, chunks, a step and ranges never are: what is wrong
+/// of them is looked for inside.
 pub(crate) fn fits(alloc: Global, kind: Kind, value: &Value) -> Result<bool, NoMemory> {
     match kind {
         Kind::Validity => is_validity(alloc, value),

@@ -1,8 +1,8 @@
 //! Why bytes aren't a document: the place, what was expected there, and what was got.
 //!
-//! A document is read by `vx_document`, which only says that a value is invalid. This crate looks for
-//! the reason afterwards. It reads the same values by the same readers, from the outside in, and so
-//! finds the innermost value that is invalid.
+//! A document is read by `vx_document`, which only says that a value is invalid. This crate looks
+//! for the reason afterwards. It reads the same values by the same readers, from the outside in,
+//! and so finds the innermost value that is invalid.
 #![tactic(auto)]
 
 mod column;

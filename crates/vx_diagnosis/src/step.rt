@@ -4,7 +4,7 @@ use crate::fits::fits;
 use crate::kind::{Kind, name_of};
 use crate::lists::look_at_items;
 use crate::look::{Look, Place};
-use crate::members::{look_at_members, needed};
+use crate::members::{Rule, look_at_members, needed};
 use serde_json::Value;
 use std::alloc::Global;
 use vx_bits::NoMemory;
@@ -69,6 +69,20 @@ pub(crate) fn look_at_steps<'v>(
     Ok(Look::Disagreeing)
 }
 
+// What says which rows are set, in a mask that states its length.
+fn marks_of(value: &Value) -> Option<Rule> {
+    if value.get("set").is_some() {
+        return Some(needed("set", Kind::Wholes));
+    }
+    if value.get("runs").is_some() {
+        return Some(needed("runs", Kind::Pairs));
+    }
+    if value.get("every").is_some() {
+        return Some(needed("every", Kind::Bool));
+    }
+    None
+}
+
 /// Looks at a mask.
 pub(crate) fn look_at_mask<'v>(
     alloc: Global,
@@ -78,7 +92,6 @@ pub(crate) fn look_at_mask<'v>(
     if value.is_string() {
         return Ok(Look::Expected(name_of(Kind::Digits), value));
     }
-    let len = needed("len", Kind::Whole(GREATEST_LEN));
     if value.get("bits").is_some() {
         let rules = [
             needed("bits", Kind::Digits),
@@ -86,37 +99,14 @@ pub(crate) fn look_at_mask<'v>(
         ];
         return look_at_members(alloc, place, value, &rules, &[]);
     }
-    if value.get("set").is_some() {
-        return look_at_members(
-            alloc,
-            place,
+    let Some(marks) = marks_of(value) else {
+        return Ok(Look::Expected(
+            "a string of 0 and 1, or an object with bits, set, runs or every",
             value,
-            &[len, needed("set", Kind::Wholes)],
-            &[],
-        );
-    }
-    if value.get("runs").is_some() {
-        return look_at_members(
-            alloc,
-            place,
-            value,
-            &[len, needed("runs", Kind::Pairs)],
-            &[],
-        );
-    }
-    if value.get("every").is_some() {
-        return look_at_members(
-            alloc,
-            place,
-            value,
-            &[len, needed("every", Kind::Bool)],
-            &[],
-        );
-    }
-    Ok(Look::Expected(
-        "a string of 0 and 1, or an object with bits, set, runs or every",
-        value,
-    ))
+        ));
+    };
+    let len = needed("len", Kind::Whole(GREATEST_LEN));
+    look_at_members(alloc, place, value, &[len, marks], &[])
 }
 
 /// Looks at the indices of a take.

@@ -1,5 +1,5 @@
-//! Short forms for callers: a filter by a column, a take of every n-th row, a field by its name, and
-//! columns and rows as text.
+//! Short forms for callers: a filter by a column, a take of every n-th row, a field by its name,
+//! and columns and rows as text.
 #![tactic(auto)]
 
 mod named;
