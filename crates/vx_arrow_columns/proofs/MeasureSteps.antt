@@ -109,7 +109,7 @@ pub record LenTo (z : Offsets) (p : Part) (q : List (Option ℕ)) (count k total
   pub len : total ≡ items_len z p (take k q)
   pub small : total < limit_of z
 
-limit_some : (z : Offsets) → 0 < limit_of z
+pub limit_some : (z : Offsets) → 0 < limit_of z
 limit_some Short = lit< tt
 limit_some Long = lit< tt
 

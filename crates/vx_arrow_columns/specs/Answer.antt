@@ -57,8 +57,8 @@ pub record MeansPicked (parts : List Part) (q : Picking) (rooms : List Room) : T
 
 -- why no rows at picks are read, where the first node has n rows: `NoMeaning` comes only where some
 -- node isn't sound at its picks, `Overflow` only where the rows of the node that is named can't be
--- counted, `Beyond` only where some pick is past the rows, and `NullPick` only where the column is a
--- union and some pick is null
+-- counted, `Beyond` only where some pick is past the rows, and `NullPick` only where the column is
+-- a union and some pick is null
 abbrev pub IsPlanRefusal : List Part → Picking → ℕ → Refusal → Type 0
 IsPlanRefusal parts q n (refusals.NoMeaning node lack) = AreSoundAt parts q → ⊥
 IsPlanRefusal parts q n refusals.Beyond = AreWithin q.picks n → ⊥
@@ -76,8 +76,8 @@ IsRefusalBy parts q short (refusals.Room node) = short node
 IsRefusalBy parts q short (refusals.Overflow node) = IsUncounted parts q node
 IsRefusalBy parts q short refusals.NoMemory = ⊤
 
--- there are not as many needs or rooms as nodes, and no node is named, or the one that is has a room
--- that is smaller than its need
+-- there are not as many needs or rooms as nodes, and no node is named, or the one that is has a
+-- room that is smaller than its need
 pub record IsRoomless (parts : List Part) (q : Picking) (needs : ℕ) (rooms : List Room) (node : ℕ)
     : Type 0 where
   pub count : (needs ≡ length parts → length rooms ≡ length parts → ⊥) → node ≡ length parts

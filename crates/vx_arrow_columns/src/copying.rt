@@ -64,8 +64,8 @@ fn write_values(node: &Node, picks: &Picks, out: &mut [u8])
     }
 }
 
-/// Writes the values of the rows at runs of places, of any width. It isn't inlined, so that its loop
-/// has the registers.
+/// Writes the values of the rows at runs of places, of any width. It isn't inlined, so that its
+/// loop has the registers.
 #[inline(never)]
 pub(crate) fn write_runs(node: &Node, picks: &RunPicks, out: &mut [u8])
     requires placed { is_placed (part_of node.now) ≡ true }

@@ -106,10 +106,8 @@ fn tested_cut(size: Offsets, node: &Node, i: usize, count: u64) -> Result<Cut, F
     if cut.start > cut.end {
         return Err(Fault::Lacks(Lack::Items));
     }
-    if cut.end >= size.limit() {
-        return Err(Fault::Lacks(Lack::Items));
-    }
-    if cut.end > count {
+    // The lesser bound is the same for all rows, so a loop tests one.
+    if cut.end > count.min(size.limit() - 1) {
         return Err(Fault::Lacks(Lack::Items));
     }
     Ok(cut)
@@ -131,13 +129,15 @@ pub(crate) fn count_items(
         (AreCutAt size (part_of node.now) (the_picks picks.now) items → ⊥)
         (limit_of size ≤ items_len size (part_of node.now) (the_picks picks.now))) }
 {
+    let own = *node;
+    let all = *picks;
     if !holds_offsets(size, node) {
         return Err(Fault::Lacks(Lack::Offsets));
     }
     let mut total = 0;
-    for k in 0..picks.places.len() {
-        if let Some(i) = place(node, picks, k) {
-            let cut = tested_cut(size, node, i, items)?;
+    for k in 0..all.places.len() {
+        if let Some(i) = place(&own, &all, k) {
+            let cut = tested_cut(size, &own, i, items)?;
             total += cut.end - cut.start;
             if total >= size.limit() {
                 return Err(Fault::Overflow);
@@ -147,10 +147,9 @@ pub(crate) fn count_items(
     Ok(total)
 }
 
-/// The places of the items of the lists at the picks, as a run for each list that is there. It
-/// isn't inlined either.
-#[inline(never)]
-pub(crate) fn list_runs(
+// The places of the items of the lists at the picks, as a run for each list that is there.
+#[inline(always)]
+fn runs_of(
     alloc: Global,
     size: Offsets,
     node: &Node,
@@ -194,6 +193,36 @@ pub(crate) fn list_runs(
         list: Places::Runs(runs),
         end: last,
     })
+}
+
+/// The places of the items of the lists at the picks, as a run for each list that is there. Where
+/// nothing is null, each size has a loop without a look at validity. It isn't inlined either.
+#[inline(never)]
+pub(crate) fn list_runs(
+    alloc: Global,
+    size: Offsets,
+    node: &Node,
+    picks: &Picks,
+    items: u64,
+) -> Result<Items, Fault>
+    requires { IsAsked (Format.List size) node.now picks.now }
+    ensures items { IfOk result (λ items. AreItems size (part_of node.now) (the_picks picks.now)
+        (list_places items.list) items.end) }
+    ensures there { IfOk result (λ items. list_valid items.list ≡ []) }
+    ensures fault { IfErr result (IsFault
+        (AreCutAt size (part_of node.now) (the_picks picks.now) items → ⊥)
+        (limit_of size ≤ items_len size (part_of node.now) (the_picks picks.now))) }
+{
+    if !node.valid.is_empty() {
+        return runs_of(alloc, size, node, picks, items);
+    }
+    if !picks.valid.is_empty() {
+        return runs_of(alloc, size, node, picks, items);
+    }
+    match size {
+        Offsets::Short => runs_of(alloc, Offsets::Short, node, picks, items),
+        Offsets::Long => runs_of(alloc, Offsets::Long, node, picks, items),
+    }
 }
 
 /// The places of the items of the lists at the picks, one by one. They are counted first, so that

@@ -17,7 +17,7 @@ use crate::puts::put_offset;
 use crate::unions::write_ids;
 use vx_arrow_image::{Format, Node, Offsets, bit_is, cut_at, format_of};
 use vx_arrow_zeros::clear_rows;
-use vx_runs::{put_bytes, put_run, with_bit};
+use vx_runs::{put_bytes, put_text, with_bit};
 
 // A bit for each of so many picks from pick `first` on: whether its row is there.
 #[inline(always)]
@@ -99,7 +99,8 @@ fn write_bits(node: &Node, picks: &Picks, out: &mut [u8])
 }
 
 // Writes where the items of each row begin and end among those of all rows.
-fn write_offsets(size: Offsets, node: &Node, picks: &Picks, out: &mut [u8])
+#[inline(always)]
+fn write_ends(size: Offsets, node: &Node, picks: &Picks, out: &mut [u8])
     requires placed { is_placed (part_of node.now) ≡ true }
     requires within { AreWithin (the_picks picks.now) node.now.len }
     requires ordered { AreOrdered size (part_of node.now) (the_picks picks.now) }
@@ -121,29 +122,101 @@ fn write_offsets(size: Offsets, node: &Node, picks: &Picks, out: &mut [u8])
     }
 }
 
-// Writes the bytes of the texts of all rows, one behind another. It isn't inlined, so that its loop
-// has the registers.
+// Writes the offsets of lists. Each size has a loop, and one more without a look at validity,
+// where nothing is null.
 #[inline(never)]
-fn write_texts(size: Offsets, node: &Node, picks: &Picks, out: &mut [u8])
+fn write_offsets(size: Offsets, node: &Node, picks: &Picks, out: &mut [u8])
+    requires placed { is_placed (part_of node.now) ≡ true }
+    requires within { AreWithin (the_picks picks.now) node.now.len }
+    requires ordered { AreOrdered size (part_of node.now) (the_picks picks.now) }
+    requires counted { items_len size (part_of node.now) (the_picks picks.now) < limit_of size }
+    requires room { size_of size * (length picks.now.places.now + 1) ≤ length out.old }
+    ensures { AreOffsets size (part_of node.now) (the_picks picks.now)
+        (length picks.now.places.now) out.new }
+{
+    if !node.valid.is_empty() {
+        match size {
+            Offsets::Short => write_ends(Offsets::Short, node, picks, out),
+            Offsets::Long => write_ends(Offsets::Long, node, picks, out),
+        }
+        return;
+    }
+    if !picks.valid.is_empty() {
+        match size {
+            Offsets::Short => write_ends(Offsets::Short, node, picks, out),
+            Offsets::Long => write_ends(Offsets::Long, node, picks, out),
+        }
+        return;
+    }
+    match size {
+        Offsets::Short => write_ends(Offsets::Short, node, picks, out),
+        Offsets::Long => write_ends(Offsets::Long, node, picks, out),
+    }
+}
+
+// Writes the text of each row behind those of the rows before it, and where it begins and ends.
+#[inline(always)]
+fn write_each_text(size: Offsets, node: &Node, picks: &Picks, offsets: &mut [u8], out: &mut [u8])
     requires placed { is_placed (part_of node.now) ≡ true }
     requires within { AreWithin (the_picks picks.now) node.now.len }
     requires cut { AreCutAt size (part_of node.now) (the_picks picks.now)
         (length node.now.values.now) }
+    requires counted { items_len size (part_of node.now) (the_picks picks.now) < limit_of size }
+    requires ends { size_of size * (length picks.now.places.now + 1) ≤ length offsets.old }
     requires room { items_len size (part_of node.now) (the_picks picks.now) ≤ length out.old }
-    ensures { take (items_len size (part_of node.now) (the_picks picks.now)) out.new
-        ≡ texts_of size (part_of node.now)
-        (the_picks picks.now) }
+    ensures offsets { AreOffsets size (part_of node.now) (the_picks picks.now)
+        (length picks.now.places.now) offsets.new }
+    ensures texts { take (items_len size (part_of node.now) (the_picks picks.now)) out.new
+        ≡ texts_of size (part_of node.now) (the_picks picks.now) }
 {
     let own = *node;
     let all = *picks;
     let mut at = 0;
+    put_offset(size, offsets, 0, 0);
     for k in 0..all.places.len() {
         if let Some(i) = place(&own, &all, k) {
             let cut = cut_at(size, &own, i);
             let len = (cut.end - cut.start) as usize;
-            put_run::<16>(out, at, own.values, cut.start as usize, len);
+            put_text(out, at, own.values, cut.start as usize, len);
             at += len;
         }
+        put_offset(size, offsets, k + 1, at as u64);
+    }
+}
+
+// Writes texts and their offsets. Each size has a loop, and one more without a look at validity,
+// where nothing is null. It isn't inlined, so that the loops have the registers.
+#[inline(never)]
+fn write_texts(size: Offsets, node: &Node, picks: &Picks, offsets: &mut [u8], out: &mut [u8])
+    requires placed { is_placed (part_of node.now) ≡ true }
+    requires within { AreWithin (the_picks picks.now) node.now.len }
+    requires cut { AreCutAt size (part_of node.now) (the_picks picks.now)
+        (length node.now.values.now) }
+    requires counted { items_len size (part_of node.now) (the_picks picks.now) < limit_of size }
+    requires ends { size_of size * (length picks.now.places.now + 1) ≤ length offsets.old }
+    requires room { items_len size (part_of node.now) (the_picks picks.now) ≤ length out.old }
+    ensures offsets { AreOffsets size (part_of node.now) (the_picks picks.now)
+        (length picks.now.places.now) offsets.new }
+    ensures texts { take (items_len size (part_of node.now) (the_picks picks.now)) out.new
+        ≡ texts_of size (part_of node.now) (the_picks picks.now) }
+{
+    if !node.valid.is_empty() {
+        match size {
+            Offsets::Short => write_each_text(Offsets::Short, node, picks, offsets, out),
+            Offsets::Long => write_each_text(Offsets::Long, node, picks, offsets, out),
+        }
+        return;
+    }
+    if !picks.valid.is_empty() {
+        match size {
+            Offsets::Short => write_each_text(Offsets::Short, node, picks, offsets, out),
+            Offsets::Long => write_each_text(Offsets::Long, node, picks, offsets, out),
+        }
+        return;
+    }
+    match size {
+        Offsets::Short => write_each_text(Offsets::Short, node, picks, offsets, out),
+        Offsets::Long => write_each_text(Offsets::Long, node, picks, offsets, out),
     }
 }
 
@@ -221,8 +294,7 @@ fn write_text_node(
         valid.new offsets.new values.new s }
 {
     write_valid_of(node, picks, valid);
-    write_offsets(size, node, picks, offsets);
-    write_texts(size, node, picks, values);
+    write_texts(size, node, picks, offsets, values);
 }
 
 // Writes the lists' own part: where the items of each begin and end.

@@ -22,6 +22,28 @@ pub fn put_bytes(bytes: &mut [u8], at: usize, src: &[u8])
     bytes[at..at + src.len()].copy_from_slice(src);
 }
 
+// Writes B bytes over as many. They are written as an array, so that the compiler adds no test of
+// overlap.
+#[inline(always)]
+fn fill<const B: usize>(bytes: &mut [u8], src: [u8; B])
+    requires { length bytes.old ≡ B }
+    ensures { bytes.new ≡ src.entry }
+{
+    let Some(out) = bytes.as_mut_array::<B>() else {
+        return;
+    };
+    *out = src;
+}
+
+/// Writes B bytes over those from `at` on.
+#[inline(always)]
+pub fn put_array<const B: usize>(bytes: &mut [u8], at: usize, src: [u8; B])
+    requires { at + B ≤ length bytes.old }
+    ensures { bytes.new ≡ take at bytes.old ++ (src.entry ++ drop (at + B) bytes.old) }
+{
+    fill::<B>(&mut bytes[at..at + B], src);
+}
+
 /// Copies B bytes from `from` on to `at` on. They go through an array, so that the compiler adds
 /// no test of overlap.
 #[inline(always)]
@@ -31,9 +53,9 @@ pub fn put_block<const B: usize>(bytes: &mut [u8], at: usize, src: &[u8], from: 
     ensures { bytes.new
         ≡ take at bytes.old ++ (take B (drop from src.now) ++ drop (at + B) bytes.old) }
 {
-    let mut block = [0u8; B];
-    block.copy_from_slice(&src[from..from + B]);
-    bytes[at..at + B].copy_from_slice(&block);
+    if let Ok(block) = <[u8; B]>::try_from(&src[from..from + B]) {
+        put_array::<B>(bytes, at, block);
+    }
 }
 
 // Copies `count` bytes from `from` on to `at` on. It isn't inlined: in a loop its copies would take
@@ -48,16 +70,41 @@ fn put_long(bytes: &mut [u8], at: usize, src: &[u8], from: usize, count: usize)
 }
 
 /// Copies `count` bytes from `from` on to `at` on. Bytes behind them may change: up to B bytes are
-/// copied as a block of B, if source and target have room for it.
+/// copied as a block of B, if source and target have bytes behind it. In a loop over one source and
+/// target the ends of these blocks are computed once.
 #[inline(always)]
 pub fn put_run<const B: usize>(bytes: &mut [u8], at: usize, src: &[u8], from: usize, count: usize)
     requires room { at + count ≤ length bytes.old }
     requires there { from + count ≤ length src.now }
     ensures { take (at + count) bytes.new ≡ take at bytes.old ++ take count (drop from src.now) }
 {
-    if count <= B && B <= src.len() - from && B <= bytes.len() - at {
+    if count <= B && from < src.len().saturating_sub(B) && at < bytes.len().saturating_sub(B) {
         put_block::<B>(bytes, at, src, from);
         return;
+    }
+    put_long(bytes, at, src, from, count);
+}
+
+/// Copies `count` bytes from `from` on to `at` on. Bytes behind them may change: up to 16 bytes are
+/// copied as a block of 16, and up to 64 as a block of 64, if source and target have 64 bytes behind
+/// them.
+#[inline(always)]
+pub fn put_text(bytes: &mut [u8], at: usize, src: &[u8], from: usize, count: usize)
+    requires room { at + count ≤ length bytes.old }
+    requires there { from + count ≤ length src.now }
+    ensures { take (at + count) bytes.new ≡ take at bytes.old ++ take count (drop from src.now) }
+{
+    if from + count < src.len().saturating_sub(64) {
+        if at + count < bytes.len().saturating_sub(64) {
+            if count <= 16 {
+                put_block::<16>(bytes, at, src, from);
+                return;
+            }
+            if count <= 64 {
+                put_block::<64>(bytes, at, src, from);
+                return;
+            }
+        }
     }
     put_long(bytes, at, src, from, count);
 }

@@ -1,5 +1,5 @@
 -- The items of one list more.
-use Rattle.std.proofs.Common.{◌≡◌, ◌-◌, ◌<◌, ◌++◌, ap, sym, ◌∙◌, refl, arith, length, rules}
+use Rattle.std.proofs.Common.{◌≡◌, ◌-◌, ◌<◌, ◌++◌, ap, ◌∙◌, refl, arith, length, rules}
 use Rattle.std.specs.List.{range_with_len}
 use Rattle.vx_arrow_image.specs.Image.{part_of}
 use Rattle.vx_arrow_columns.specs.Picks.{picks_of}

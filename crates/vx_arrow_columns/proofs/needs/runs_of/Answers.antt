@@ -10,8 +10,8 @@ use Rattle.vx_arrow_columns.proofs.Steps.{len_after, at_pick}
 use Rattle.vx_arrow_columns.proofs.MeasureSteps.{all_items, limit_few, no_places, places_none, places_some}
 use Rattle.vx_runs.specs.Runs.{run_places}
 use Rattle.vx_runs.proofs.RunPlaces.{bare_places, pushed_places}
-use Rattle.vx_arrow_columns.proofs.needs.list_runs.Goals as goal
-use Rattle.vx_arrow_columns.proofs.needs.list_runs.Goals.{in-Some+in_ok-cut+else-total-limit, in_default-place}
+use Rattle.vx_arrow_columns.proofs.needs.runs_of.Goals as goal
+use Rattle.vx_arrow_columns.proofs.needs.runs_of.Goals.{in-Some+in_ok-cut+else-total-limit, in_default-place}
 
 pub overflow_add-total : goal.overflow_add-total
 overflow_add-total c = let small = c.loop-k.invariant.items.lens.small in let few = limit_few c.args.size in omega (arith, c.in_ok-cut.ensures.small)

@@ -6,8 +6,8 @@ use Rattle.vx_arrow_columns.proofs.Cuts.{len_within}
 use Rattle.vx_arrow_columns.proofs.PickReads.{length_picks}
 use Rattle.vx_arrow_columns.proofs.Steps.{len_after, at_pick, first_offset, next_len, next_offset, row_none, row_some}
 use Rattle.vx_arrow_columns.proofs.MeasureSteps.{limit_few}
-use Rattle.vx_arrow_columns.proofs.writing.write_offsets.Goals as goal
-use Rattle.vx_arrow_columns.proofs.writing.write_offsets.Goals.{in-Some, in_default}
+use Rattle.vx_arrow_columns.proofs.writing.write_ends.Goals as goal
+use Rattle.vx_arrow_columns.proofs.writing.write_ends.Goals.{in-Some, in_default}
 
 pub loop-k-init : goal.loop-k-init
 loop-k-init c = first_offset c.args.size (part_of c.args.node.now) _ _ c.args.out.now _ c.put_offset.ensures refl

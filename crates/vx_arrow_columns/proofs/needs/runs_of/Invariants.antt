@@ -5,7 +5,7 @@ use Rattle.vx_arrow_image.specs.Image.{part_of}
 use Rattle.vx_arrow_columns.specs.Picks.{picks_of}
 use Rattle.vx_arrow_columns.proofs.MeasureSteps.{ItemsTo}
 use Rattle.vx_runs.specs.Runs.{run_places}
-use Rattle.vx_arrow_columns.proofs.needs.list_runs.Given as goal
+use Rattle.vx_arrow_columns.proofs.needs.runs_of.Given as goal
 
 abbrev pub invariant-loop-k : goal.invariant-loop-k
 invariant-loop-k l = record {

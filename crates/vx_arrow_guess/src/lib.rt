@@ -1,4 +1,6 @@
 //! About how much the rows at picks need, before these are known.
+#![tactic(auto)]
+
 ghost use Rattle.std.specs.Prelude.{◌≡◌, length};
 
 use std::alloc::{AllocError, Global};
@@ -136,11 +138,11 @@ fn below(node: &Node, asked: Asked) -> Asked {
 }
 
 /// Writes about how many rows and bytes `rows` picks of a column take of each node, which may be
-/// nullable: what the rooms of [`take`](crate::take) can be before its needs are known.
+/// nullable: what the rooms of `take` of `vx_arrow_columns` can be before its needs are known.
 ///
 /// It is what they need for formats whose rows have all one size, and else by the mean size of the
-/// rows, with an eighth more. Nothing is promised: `take` tests the rooms. Needs past the nodes, and
-/// past the end of a table that lacks nodes, stay as they are. Fails only if memory runs out.
+/// rows, with an eighth more. Nothing is promised: `take` tests the rooms. Needs past the nodes,
+/// and past the end of a table that lacks nodes, stay as they are. Fails only if memory runs out.
 pub fn guess(
     alloc: Global,
     nodes: &[Node],
