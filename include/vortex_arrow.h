@@ -125,6 +125,7 @@ enum {
     VORTEX_ARROW_LACKING = 7,    /* a malformed step */
     VORTEX_ARROW_FORMAT = 8,     /* an unknown format */
     VORTEX_ARROW_NULL_PICK = 9,  /* a null is selected of a union, whose rows are never null */
+    VORTEX_ARROW_UNLIKE = 10,    /* columns differ in type, or have different dictionaries */
     /* Of the shim alone: */
     VORTEX_ARROW_SHAPE = 16,     /* a struct doesn't match its format, or is released */
     VORTEX_ARROW_DEPTH = 17,     /* more than VORTEX_ARROW_LEVELS or VORTEX_ARROW_NODES */
@@ -355,6 +356,28 @@ vortex_arrow_answer vortex_arrow_select(const vortex_arrow_node *nodes, size_t n
     const vortex_arrow_step *steps, size_t n_steps, vortex_arrow_need *needs, size_t n_needs,
     vortex_arrow_room *rooms, size_t n_rooms);
 
+/* The nodes at one place of several tables, in the tables' order. */
+typedef struct vortex_arrow_group {
+    const vortex_arrow_node *nodes;
+    size_t len;
+} vortex_arrow_group;
+
+/* Rows of one of several columns that follow one another. */
+typedef struct vortex_arrow_span {
+    uint64_t source; /* the column's number */
+    uint64_t start;  /* the first row */
+    uint64_t len;    /* how many rows they are */
+} vortex_arrow_span;
+
+/* Writes rows of several columns to the rooms, one span after another, node by node. The tables
+ * have one shape: there is a group, a need and a room for each of its nodes. The status is DONE,
+ * NO_MEANING, BEYOND, ROOM, OVERFLOW, NO_MEMORY, FORMAT or UNLIKE. At all but DONE nothing is
+ * written to the rooms. The needs are written at DONE, and at ROOM if there are as many needs and
+ * rooms as groups. */
+vortex_arrow_answer vortex_arrow_interleave(const vortex_arrow_group *groups, size_t n_groups,
+    const vortex_arrow_span *spans, size_t n_spans, vortex_arrow_need *needs, size_t n_needs,
+    vortex_arrow_room *rooms, size_t n_rooms);
+
 /* Writes zeros under the nulls of a node that has so many rows in these lists:
  *
  * - FIXED and VIEWS: over the values of null rows. BITS: over their bits.
@@ -427,6 +450,17 @@ void vortex_arrow_explain(uint64_t len, const vortex_arrow_step *steps, size_t n
 uint64_t vortex_select_arrow(const struct ArrowSchema *schema, struct ArrowArray *array,
     const vortex_arrow_step *steps, size_t n_steps, struct ArrowSchema *out_schema,
     struct ArrowArray *out_array, vortex_arrow_error *error);
+
+/* Returns rows of several columns of one type as one column: those of the first span, then those
+ * of the second, and so on. *out becomes an array in memory of its own. Its dictionaries are those
+ * of the first array, which it shares. All dictionaries must be equal, byte by byte. A dense
+ * union is of no known FORMAT here.
+ *
+ * The return value is DONE, NO_MEANING, BEYOND, OVERFLOW, NO_MEMORY, FORMAT, UNLIKE, SHAPE or
+ * DEPTH. At every status except DONE, *out is marked as released. */
+uint64_t vortex_interleave_arrow(const struct ArrowSchema *schema, struct ArrowArray **arrays,
+    size_t n_arrays, const vortex_arrow_span *spans, size_t n_spans, struct ArrowArray *out,
+    vortex_arrow_error *error);
 
 /* Tests every row of a column, of its children and of its dictionaries: shapes, offsets, views,
  * type ids, the dictionary codes of rows that aren't null, and the rules of

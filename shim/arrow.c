@@ -125,10 +125,13 @@ uint64_t vortex_arrow_select_rows(const struct ArrowSchema *schema, struct Arrow
     const vortex_arrow_step *steps, size_t n_steps, struct ArrowArray *out,
     vortex_arrow_error *error)
 {
+    vortex_arrow_rows rows = {NULL, 0, NULL, NULL, 0};
     vortex_arrow_picks_need need = {0, 0};
     vortex_arrow_answer answer = {VORTEX_ARROW_DONE, 0, 0};
     size_t left = VORTEX_ARROW_NODES;
     table t;
+    rows.steps = steps;
+    rows.n_steps = n_steps;
     memset(error, 0, sizeof *error);
     memset(&t, 0, sizeof t);
     t.error = error;
@@ -136,7 +139,7 @@ uint64_t vortex_arrow_select_rows(const struct ArrowSchema *schema, struct Arrow
     if (vortex_arrow_walk(&t, schema, array, 1) || vortex_arrow_admit_dictionaries(&t)) {
         answer = vortex_arrow_count((uint64_t)array->length, steps, n_steps, &need);
     } else {
-        answer = vortex_arrow_answer_rows(&t, steps, n_steps, out);
+        answer = vortex_arrow_answer_rows(&t, &rows, out);
     }
     if (answer.status == VORTEX_ARROW_BROKEN || answer.status == VORTEX_ARROW_LACKING) {
         vortex_arrow_explain((uint64_t)array->length, steps, n_steps, answer, error);

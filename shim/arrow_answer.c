@@ -26,6 +26,12 @@ static uint64_t space_of(const vortex_arrow_need *need, char slot)
     return bytes || slot == 'v' ? ALIGNED(bytes) : 64;
 }
 
+/* How many bytes the lengths of the data buffers of views have. */
+static uint64_t space_of_lengths(const vortex_arrow_node *node)
+{
+    return ALIGNED(8 * node->children + 8);
+}
+
 /* What the library writes to the buffer with a number, from 1, or 0. After a union's buffers it
  * writes the type ids of the children, which are in no buffer. */
 static char slot_at(const vortex_arrow_layout *layout, const vortex_arrow_node *node,
@@ -43,6 +49,9 @@ static uint64_t bytes_of(const table *t, size_t node, const vortex_arrow_need *n
     char slot;
     if (t->sources[node].is_kept) {
         return 0;
+    }
+    if (t->gathers && vortex_arrow_has_views(&t->nodes[node])) {
+        bytes = space_of_lengths(&t->nodes[node]);
     }
     while ((slot = slot_at(&t->sources[node].layout, &t->nodes[node], number++)) != 0 &&
         bytes <= PTRDIFF_MAX / 4) {
@@ -96,8 +105,9 @@ static void place_buffers(const table *t, size_t node, const vortex_arrow_need *
     const struct ArrowArray *from = t->sources[node].array;
     int64_t k = 0;
     char slot;
+    int64_t padding = (int64_t)vortex_arrow_padding(t, &t->nodes[node], &t->sources[node]);
     to->buffers = s->buffers;
-    to->n_buffers = from->n_buffers;
+    to->n_buffers = from->n_buffers + padding;
     for (; (slot = slot_at(layout, &t->nodes[node], (uint64_t)k + 1)) != 0; k++) {
         vortex_arrow_room_bytes *bytes = room_of(room, slot);
         uint64_t space = space_of(need, slot);
@@ -108,8 +118,41 @@ static void place_buffers(const table *t, size_t node, const vortex_arrow_need *
         }
         s->bytes += space;
     }
-    keep_buffers(from, to, k);
-    s->buffers += from->n_buffers;
+    if (!t->gathers) {
+        keep_buffers(from, to, k);
+    }
+    s->buffers += to->n_buffers;
+}
+
+/* Sets the data buffers of views, which the library writes, and the place of their lengths. */
+static void place_data(const table *t, size_t node, const vortex_arrow_need *needs,
+    vortex_arrow_room *rooms, struct ArrowArray *to, supply *s)
+{
+    size_t k, count = t->nodes[node].children;
+    for (k = 0; k < count; k++) {
+        vortex_arrow_room_bytes *bytes = &rooms[node + 1 + k].values;
+        bytes->data = s->bytes;
+        bytes->len = space_of(&needs[node + 1 + k], 'd');
+        to->buffers[k + 2] = s->bytes;
+        s->bytes += bytes->len;
+    }
+    to->buffers[count + 2] = s->bytes;
+    s->bytes += space_of_lengths(&t->nodes[node]);
+}
+
+/* Sets the lengths of data buffers that were written, and clears the rest of their cache lines. */
+static void finish_data(const table *t, size_t node, const vortex_arrow_need *needs,
+    vortex_arrow_room *rooms, struct ArrowArray *to)
+{
+    size_t k, count = t->nodes[node].children;
+    uint8_t *lengths = (uint8_t *)to->buffers[count + 2];
+    memset(lengths, 0, space_of_lengths(&t->nodes[node]));
+    for (k = 0; k < count; k++) {
+        uint64_t used = needs[node + 1 + k].values;
+        memset(rooms[node + 1 + k].values.data + used, 0,
+            space_of(&needs[node + 1 + k], 'd') - used);
+        memcpy(lengths + 8 * k, &used, sizeof used);
+    }
 }
 
 /* The next array of a supply. It is released until something is put there. */
@@ -140,6 +183,9 @@ static void place(const table *t, size_t node, const vortex_arrow_need *needs,
     size_t next = node + 1;
     int64_t k;
     place_one(t, node, &needs[node], &rooms[node], to, s);
+    if (t->gathers && vortex_arrow_has_views(&t->nodes[node])) {
+        place_data(t, node, needs, rooms, to, s);
+    }
     for (k = 0; k < to->n_children; k++) {
         to->children[k] = next_array(s);
         if (!t->sources[next].is_kept) {
@@ -195,7 +241,11 @@ static void finish(const table *t, size_t node, const vortex_arrow_need *needs,
     int64_t k;
     finish_one(t, node, &needs[node], &rooms[node], to);
     if (vortex_arrow_has_views(&t->nodes[node])) {
-        hold_data(from, to, s);
+        if (t->gathers) {
+            finish_data(t, node, needs, rooms, to);
+        } else {
+            hold_data(from, to, s);
+        }
     }
     if (from->dictionary) {
         hand_on(from->dictionary, to->dictionary, s);
@@ -241,13 +291,12 @@ static vortex_arrow_answer check_codes(const table *t, const vortex_arrow_need *
     return answer;
 }
 
-/* ---- One selection ---- */
+/* ---- One answer ---- */
 
-/* What is selected, of what, and how many rows and bytes each node has. */
+/* Which rows of which nodes, and how many rows and bytes each node has. */
 typedef struct selection {
     const table *t;
-    const vortex_arrow_step *steps;
-    size_t n_steps;
+    const vortex_arrow_rows *rows;
     vortex_arrow_need *needs;
     vortex_arrow_room *rooms;
 } selection;
@@ -255,8 +304,14 @@ typedef struct selection {
 /* Has the library write the rows to the rooms, or say how large these have to be. */
 static vortex_arrow_answer write_rows(const selection *s)
 {
-    return vortex_arrow_select(s->t->nodes, s->t->len, s->steps, s->n_steps, s->needs, s->t->len,
-        s->rooms, s->t->len);
+    const vortex_arrow_rows *rows = s->rows;
+    size_t n = s->t->len;
+    if (rows->groups) {
+        return vortex_arrow_interleave(rows->groups, n, rows->spans, rows->n_spans, s->needs, n,
+            s->rooms, n);
+    }
+    return vortex_arrow_select(s->t->nodes, n, rows->steps, rows->n_steps, s->needs, n, s->rooms,
+        n);
 }
 
 /* Makes an array with the rooms that the needs say, and has the library write the rows. The needs
@@ -284,15 +339,16 @@ static vortex_arrow_answer make(const selection *s, struct ArrowArray *out)
     return answer;
 }
 
-/* Sets the needs to a guess. */
+/* Sets the needs of a selection by steps to a guess. */
 static vortex_arrow_answer guess(const selection *s)
 {
+    const vortex_arrow_rows *rows = s->rows;
     vortex_arrow_picks_need count = {0, 0};
-    vortex_arrow_answer answer = vortex_arrow_count_picks(s->t->nodes[0].len, s->steps, s->n_steps,
-        &count);
+    vortex_arrow_answer answer = vortex_arrow_count_picks(s->t->nodes[0].len, rows->steps,
+        rows->n_steps, &count);
     if (!answer.status) {
         answer.status = vortex_arrow_guess(s->t->nodes, s->t->len, count.places,
-            (uint64_t)vortex_arrow_leaves_nulls(s->steps, s->n_steps), s->needs, s->t->len);
+            (uint64_t)vortex_arrow_leaves_nulls(rows->steps, rows->n_steps), s->needs, s->t->len);
     }
     return answer;
 }
@@ -312,11 +368,11 @@ static vortex_arrow_answer measure(const selection *s)
  * last offset of strings and lists, which may be wrong where no row is selected. */
 #define LARGE_GUESS ((uint64_t)1 << 20)
 
-/* Makes an array of the rows that the steps select. Where the guess is too small, or too large, the
- * library is called again. */
+/* Makes an array of the rows. Where the guess is too small, or too large, the library is called
+ * again. */
 static vortex_arrow_answer make_by_guess(const selection *s, struct ArrowArray *out)
 {
-    vortex_arrow_answer answer = guess(s);
+    vortex_arrow_answer answer = s->rows->groups ? measure(s) : guess(s);
     if (answer.status) {
         return answer;
     }
@@ -330,11 +386,11 @@ static vortex_arrow_answer make_by_guess(const selection *s, struct ArrowArray *
     return answer;
 }
 
-vortex_arrow_answer vortex_arrow_answer_rows(const table *t, const vortex_arrow_step *steps,
-    size_t n_steps, struct ArrowArray *out)
+vortex_arrow_answer vortex_arrow_answer_rows(const table *t, const vortex_arrow_rows *rows,
+    struct ArrowArray *out)
 {
     vortex_arrow_answer answer = {VORTEX_ARROW_NO_MEMORY, VORTEX_NO_NODE, 0};
-    selection s = {t, steps, n_steps, NULL, NULL};
+    selection s = {t, rows, NULL, NULL};
     s.needs = (vortex_arrow_need *)calloc(t->len, sizeof *s.needs);
     s.rooms = (vortex_arrow_room *)calloc(t->len, sizeof *s.rooms);
     if (s.needs && s.rooms) {

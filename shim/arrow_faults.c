@@ -19,6 +19,7 @@ static const char *words_of(uint64_t status)
     case VORTEX_ARROW_LACKING: return "a malformed step";
     case VORTEX_ARROW_FORMAT: return "unknown format";
     case VORTEX_ARROW_NULL_PICK: return "expected no null of a union, got one";
+    case VORTEX_ARROW_UNLIKE: return "expected columns of one type and dictionary, got others";
     case VORTEX_ARROW_SHAPE:
         return "expected what the format has, got another or a released struct";
     case VORTEX_ARROW_DEPTH: return "expected at most " DIGITS(VORTEX_ARROW_LEVELS)
@@ -150,6 +151,11 @@ static const char *part_of(const vortex_arrow_node *node, uint64_t lack)
 uint64_t vortex_arrow_fault_of_node(const table *t, vortex_arrow_answer answer)
 {
     size_t node = answer.node_or_step < t->len ? answer.node_or_step : VORTEX_NO_NODE;
+    if (node != VORTEX_NO_NODE && !t->sources[node].schema) {
+        /* What a data buffer lacks, views ask for. */
+        answer.what = VORTEX_ARROW_LACKS_ITEMS;
+        node = t->sources[node].parent;
+    }
     t->error->cause = answer.what;
     if (answer.status == VORTEX_ARROW_NO_MEANING && node != VORTEX_NO_NODE) {
         way w = way_to(t, node, part_of(&t->nodes[node], answer.what));

@@ -77,23 +77,25 @@ static uint64_t append(table *t, source from)
     if (!has_room(t)) {
         return vortex_arrow_fault(t->error, VORTEX_ARROW_NO_MEMORY, "");
     }
-    from.is_kept = !from.schema || (from.parent < t->len && (t->sources[from.parent].is_kept ||
-        vortex_arrow_is_list_view(&t->nodes[from.parent])));
+    from.is_kept = !t->gathers && (!from.schema || (from.parent < t->len &&
+        (t->sources[from.parent].is_kept ||
+        vortex_arrow_is_list_view(&t->nodes[from.parent]))));
     memset(&t->nodes[t->len], 0, sizeof t->nodes[0]);
     t->sources[t->len++] = from;
     return VORTEX_ARROW_DONE;
 }
 
-/* Appends a node for each data buffer of views. */
+/* Appends a node for each data buffer of views, and empty ones up to as many as all tables have. */
 static uint64_t walk_data(table *t, struct ArrowArray *array, size_t parent)
 {
     source from;
-    size_t k, count = t->nodes[parent].children;
+    size_t k, count = t->nodes[parent].children, own = (size_t)array->n_buffers - 3;
     memset(&from, 0, sizeof from);
     from.array = array;
     from.parent = parent;
+    from.layout.values = 1;
     for (k = 0; k < count; k++) {
-        uint64_t length = vortex_arrow_data_length(&t->nodes[parent], k);
+        uint64_t length = k < own ? vortex_arrow_data_length(&t->nodes[parent], k) : 0;
         vortex_arrow_node *node;
         if (length > INT64_MAX) {
             return vortex_arrow_fault_at(t, VORTEX_ARROW_SHAPE, parent, "buffers");
@@ -104,22 +106,30 @@ static uint64_t walk_data(table *t, struct ArrowArray *array, size_t parent)
         node = &t->nodes[t->len - 1];
         node->format = VORTEX_ARROW_FIXED;
         node->width = 1;
-        node->values = bytes_at(array->buffers[k + 2], length);
+        node->values = bytes_at(k < own ? array->buffers[k + 2] : NULL, length);
         node->len = node->values.len; /* 0 where the buffer is null */
         t->sources[t->len - 1].end = t->len;
     }
     return VORTEX_ARROW_DONE;
 }
 
+/* How many data buffers of views a node has beside those of its array. */
+size_t vortex_arrow_padding(const table *t, const vortex_arrow_node *node, const source *from)
+{
+    size_t own = (size_t)from->array->n_buffers;
+    return t->gathers && vortex_arrow_has_views(node) ? node->children + 3 - own : 0;
+}
+
 /* Counts what the answer needs for a node. */
 static void count_in(table *t, const vortex_arrow_node *node, const source *from)
 {
-    size_t views = vortex_arrow_has_views(node);
+    size_t views = !t->gathers && vortex_arrow_has_views(node);
     t->n_ids += vortex_arrow_is_union(node) ? node->children : 0;
     if (!from->is_kept) {
         t->n_arrays++;
-        t->n_buffers += (size_t)from->array->n_buffers;
-        t->n_shared += (from->array->dictionary != NULL) + views + vortex_arrow_is_list_view(node);
+        t->n_buffers += (size_t)from->array->n_buffers + vortex_arrow_padding(t, node, from);
+        t->n_shared += (from->array->dictionary != NULL) + views +
+            (!t->gathers && vortex_arrow_is_list_view(node));
         t->n_views += views;
     }
 }
@@ -196,6 +206,9 @@ static uint64_t read_node(table *t, size_t at)
         return vortex_arrow_fault_at(t, VORTEX_ARROW_SHAPE, at, misfits[misfit]);
     }
     fill(&t->nodes[at], array, layout, &lengths);
+    if (vortex_arrow_has_views(&t->nodes[at]) && t->nodes[at].children < t->data_buffers) {
+        t->nodes[at].children = t->data_buffers;
+    }
     count_in(t, &t->nodes[at], &t->sources[at]);
     return VORTEX_ARROW_DONE;
 }

@@ -87,6 +87,15 @@ typedef struct source {
     vortex_arrow_layout layout; /* of an array */
 } source;
 
+/* The rows of an answer: those that steps select of one table, or spans of several. */
+typedef struct vortex_arrow_rows {
+    const vortex_arrow_step *steps;
+    size_t n_steps;
+    const vortex_arrow_group *groups; /* null for steps */
+    const vortex_arrow_span *spans;
+    size_t n_spans;
+} vortex_arrow_rows;
+
 /* The nodes of a column. */
 typedef struct table {
     vortex_arrow_node *nodes;
@@ -94,6 +103,8 @@ typedef struct table {
     size_t len, room;
     uint8_t *ids; /* the type ids of unions */
     size_t n_ids;
+    int gathers; /* rows of several tables are written, so nothing is kept */
+    size_t data_buffers; /* how many each node of views has at least */
     /* What the answer needs: arrays with buffers of their own, these buffers, arrays that it shares
      * with the source, and how many of these hold the data buffers of views. */
     size_t n_arrays, n_buffers, n_shared, n_views;
@@ -133,10 +144,12 @@ VORTEX_HIDDEN uint64_t vortex_arrow_walk(table *t, const struct ArrowSchema *sch
     struct ArrowArray *array, int level);
 VORTEX_HIDDEN void vortex_arrow_drop_table(table *t);
 VORTEX_HIDDEN vortex_arrow_extra vortex_arrow_extra_of(const source *from);
+VORTEX_HIDDEN size_t vortex_arrow_padding(const table *t, const vortex_arrow_node *node,
+    const source *from);
 
 /* arrow_answer.c */
 VORTEX_HIDDEN vortex_arrow_answer vortex_arrow_answer_rows(const table *t,
-    const vortex_arrow_step *steps, size_t n_steps, struct ArrowArray *out);
+    const vortex_arrow_rows *rows, struct ArrowArray *out);
 
 /* arrow_arrays.c */
 VORTEX_HIDDEN int vortex_arrow_supply(supply *s, size_t parts, size_t arrays, uint64_t extra);

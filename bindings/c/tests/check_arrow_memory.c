@@ -176,6 +176,38 @@ static void check_round(uint64_t seed)
     expect(blocks == before, "nothing is left", seed);
 }
 
+/* Joins a random column with itself, twice over. */
+static void join_round(uint64_t seed)
+{
+    struct ArrowSchema schema;
+    struct ArrowArray array, out, *both[2];
+    vortex_arrow_span spans[2] = {{0, 0, 0}, {1, 0, 0}};
+    uint64_t status = VORTEX_ARROW_NO_MEMORY;
+    long before = blocks, n;
+    int has = 1;
+    reseed(seed);
+    strcpy(left_out, "+ud");
+    random_column(&schema, &array, 3);
+    left_out[0] = 0;
+    both[0] = both[1] = &array;
+    spans[0].len = spans[1].len = (uint64_t)array.length;
+    for (n = 0; has; n++) {
+        fail_at(n);
+        status = vortex_interleave_arrow(&schema, both, 2, spans, 2, &out, NULL);
+        has = has_failed();
+        expect(!has || status == VORTEX_ARROW_NO_MEMORY || !status, "join without memory", seed);
+        expect(!status == !!out.release, "no answer", seed);
+        if (!status) {
+            expect(out.length == 2 * array.length, "all rows, twice", seed);
+            out.release(&out);
+        }
+    }
+    expect(status == VORTEX_ARROW_DONE, "join", seed);
+    array.release(&array);
+    schema.release(&schema);
+    expect(blocks == before, "nothing is left", seed);
+}
+
 static void share_round(uint64_t seed)
 {
     struct ArrowSchema schema;
@@ -390,6 +422,7 @@ int main(void)
     for (seed = 1; seed <= 300; seed++) {
         select_round(seed);
         check_round(seed);
+        join_round(seed);
         share_round(seed);
         slice_round(seed);
         copy_round(seed);

@@ -314,7 +314,7 @@ class Plans(unittest.TestCase):
     def test_offsets_of_two_gigabytes(self):
         """Lists over nulls have many items and no bytes."""
         lists = [file_column(2**30 + k) for k in (0, 0)]
-        with self.assertRaisesRegex(OverflowError, r"offsets below 2\^31"):
+        with self.assertRaisesRegex(OverflowError, r"offsets up to 2\^31 - 1"):
             put_together(plan([1, 1]), lists)
         lists = [file_column(2**30 - k) for k in (0, 1)]
         self.assertEqual(len(put_together(plan([1, 1]), lists)), 2)
@@ -329,10 +329,10 @@ class Plans(unittest.TestCase):
         of, made = Type("+r", pair), producer.made_array(1, 0, 0, [], ends)
         below = Type("+s", (("a", of),)), producer.made_array(1, 0, 0, [None], [made])
         for found in (wrapped(of, made), wrapped(*below)):
-            with self.assertRaisesRegex(ValueError, r"a format of Arrow, got \"\+r\""):
+            with self.assertRaisesRegex(ValueError, r"\+r: unknown format"):
                 put_together(plan([1]), [found])
             with tempfile.TemporaryDirectory() as folder:
-                with self.assertRaisesRegex(ValueError, r"a format of Arrow, got \"\+r\""):
+                with self.assertRaisesRegex(ValueError, r"\+r: unknown format"):
                     write_column(os.path.join(folder, "column"), found)
                 self.assertEqual(os.listdir(folder), [])
 

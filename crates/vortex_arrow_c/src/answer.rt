@@ -1,12 +1,14 @@
 //! What each call answers.
 ghost use Rattle.std.specs.Prelude.{◌≡◌};
 ghost use Rattle.vortex_arrow_c.specs.Answer.{answer, column_answer, lack_answer, lack_code, refusal_answer};
+ghost use Rattle.vortex_arrow_c.specs.Interleaved.{interleaving_answer, unjoined_answer};
 ghost use Rattle.vortex_arrow_c.specs.Selected.{fault_answer, selection_answer};
 ghost use Rattle.vortex_arrow_c.specs.Steps.{cause_code, step_answer, step_lack_code};
 ghost use Rattle.vortex_arrow_c.specs.Strict.{flaw_answer, rule_code};
 
 use vx_arrow::Cause;
 use vx_arrow_columns::{Lack, Refusal};
+use vx_arrow_interleave::Refused;
 use vx_arrow_strict::{Flaw, Rule};
 
 /// The call was done.
@@ -38,6 +40,9 @@ pub(crate) const FORMAT: u64 = 8;
 
 /// A pick of a union is null.
 pub(crate) const NULL_PICK: u64 = 9;
+
+/// The nodes at one place of several tables differ: their number.
+pub(crate) const UNLIKE: u64 = 10;
 
 // What a node lacks that has other codes than those of its dictionary.
 const CODES: u64 = 16;
@@ -220,6 +225,42 @@ impl Answer {
         match outcome {
             Ok(()) => Answer::plain(DONE),
             Err(refusal) => Answer::unselected(refusal),
+        }
+    }
+
+    // Why rows of several columns aren't joined.
+    fn unjoined(refused: Refused) -> Answer
+        ensures { result ≡ unjoined_answer refused }
+    {
+        match refused {
+            Refused::NoMeaning { node, lack } => Answer::without(node, lack),
+            Refused::Unlike { node } => Answer {
+                status: UNLIKE,
+                node_or_step: node as u64,
+                what: 0,
+            },
+            Refused::Beyond => Answer::plain(BEYOND),
+            Refused::Room { node } => Answer {
+                status: ROOM,
+                node_or_step: node as u64,
+                what: 0,
+            },
+            Refused::Overflow { node } => Answer {
+                status: OVERFLOW,
+                node_or_step: node as u64,
+                what: 0,
+            },
+            Refused::NoMemory => Answer::plain(NO_MEMORY),
+        }
+    }
+
+    /// What a call over several columns answers.
+    pub(crate) fn of_interleaving(outcome: Result<(), Refused>) -> Answer
+        ensures { result ≡ interleaving_answer outcome }
+    {
+        match outcome {
+            Ok(()) => Answer::plain(DONE),
+            Err(refused) => Answer::unjoined(refused),
         }
     }
 

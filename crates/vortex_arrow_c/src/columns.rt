@@ -12,8 +12,9 @@ ghost use Rattle.vx_arrow_select.specs.Selected.{AreFilled, AreNeeds, AreTold, I
 use crate::answer::{Answer, DONE, NO_MEMORY};
 use std::alloc::Global;
 use vx_arrow::StepImage;
-use vx_arrow_columns::{Need, Node, Room, check, guess};
+use vx_arrow_columns::{Need, Node, Room, check};
 use vx_arrow_flat::select;
+use vx_arrow_guess::guess;
 
 /// Writes about how many rows and bytes `rows` picks of a column take of each node. The picks may
 /// be null unless `is_nullable` is 0.

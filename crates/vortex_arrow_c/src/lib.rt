@@ -8,6 +8,7 @@ mod answer;
 mod causes;
 mod columns;
 mod formats;
+mod interleaving;
 mod steps;
 mod strict;
 mod version;

@@ -1,9 +1,9 @@
 //! Arrays: columns in Arrow's memory that objects of Python own.
 use crate::capsules::{capsule, held_in};
 use crate::gil;
-use crate::memory::Held;
+use crate::memory::{Held, Source};
 use crate::steps::{raised, Steps, Written};
-use pyo3::exceptions::PyValueError;
+use pyo3::exceptions::{PyMemoryError, PyValueError};
 use pyo3::ffi;
 use pyo3::prelude::*;
 use pyo3::types::{PyBytes, PyString, PyTuple};
@@ -13,7 +13,7 @@ use std::os::raw::{c_int, c_void};
 use std::sync::atomic::{AtomicUsize, Ordering};
 use std::sync::{Arc, Mutex, MutexGuard, PoisonError};
 use vortex_select::arrow::{
-    self, ArrowArray, ArrowArrayStream, ArrowSchema, Column, Field, Stream,
+    self, ArrowArray, ArrowArrayStream, ArrowSchema, Column, Field, Span, Stream,
 };
 
 /// A column that is released when its last owner is dropped.
@@ -320,6 +320,54 @@ pub fn select(py: Python<'_>, array: &Array, steps: Vec<Written<'_>>) -> PyResul
     let (mut source, steps) = (array.shared()?, Steps::of(&steps)?);
     let list = steps.list();
     let answer = gil::without(py, || arrow::select(&mut source, &list));
+    Array::new(answer.map_err(raised)?)
+}
+
+fn shared(arrays: &[PyRef<'_, Array>]) -> PyResult<Vec<Column>> {
+    arrays.iter().map(|array| array.shared()).collect()
+}
+
+/// Returns all rows of arrays of one type, end to end, in memory of their own.
+#[pyfunction]
+pub fn concatenate(py: Python<'_>, arrays: Vec<PyRef<'_, Array>>) -> PyResult<Array> {
+    let mut columns = shared(&arrays)?;
+    let answer = gil::without(py, || arrow::concatenate(&mut columns));
+    Array::new(answer.map_err(raised)?)
+}
+
+/// Returns spans of single rows, those of one column that follow one another as one.
+fn spans_of(columns: &Source, rows: &Source) -> PyResult<Vec<Span>> {
+    let mut spans: Vec<Span> = Vec::new();
+    for (column, start) in columns.numbers().iter().zip(rows.numbers()) {
+        let (column, start) = (*column, *start);
+        let next = |last: &Span| {
+            last.column == column && last.start.checked_add(last.len) == Some(start)
+        };
+        match spans.last_mut().filter(|last| next(last)) {
+            Some(last) => last.len += 1,
+            None => {
+                let room = spans.try_reserve(1);
+                room.map_err(|_| PyMemoryError::new_err("out of memory"))?;
+                spans.push(Span { column, start, len: 1 });
+            }
+        }
+    }
+    Ok(spans)
+}
+
+/// Returns rows of arrays of one type: for each k row `rows[k]` of array `columns[k]`. Both are
+/// lists of 64-bit numbers.
+#[pyfunction]
+pub fn interleave(
+    py: Python<'_>,
+    arrays: Vec<PyRef<'_, Array>>,
+    columns: &PyAny,
+    rows: &PyAny,
+) -> PyResult<Array> {
+    let mut joined = shared(&arrays)?;
+    let (columns, rows) = (Source::of(columns, 8)?, Source::of(rows, 8)?);
+    let spans = spans_of(&columns, &rows)?;
+    let answer = gil::without(py, || arrow::interleave(&mut joined, &spans));
     Array::new(answer.map_err(raised)?)
 }
 

@@ -49,6 +49,7 @@ fn _native(py: Python<'_>, m: &PyModule) -> PyResult<()> {
     m.add("StepError", py.get_type::<steps::StepError>())?;
     m.add("HAS_PROGRAM", cfg!(feature = "rows"))?;
     add!(m: array::alive array::build array::array_from_capsules array::select array::compose
+        array::concatenate array::interleave
         array::read_stream array::select_stream array::select_chunks array::stream_capsule);
     add!(m: kernels::filter kernels::filter_in_place kernels::take kernels::filter_bits
         kernels::take_bits kernels::positions kernels::runs kernels::rank kernels::count_before

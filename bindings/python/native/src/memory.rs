@@ -150,6 +150,14 @@ impl Source {
         }
     }
 
+    /// Returns the items of a list of 8 bytes each. Nothing else writes to it meanwhile: the Python
+    /// code made it, and no other thread knows of it.
+    pub fn numbers(&self) -> &[u64] {
+        assert_eq!(self.width, 8);
+        // SAFETY: the place leads to so many aligned items, which are held for as long as this.
+        unsafe { std::slice::from_raw_parts(self.place(), self.len()) }
+    }
+
     pub fn len(&self) -> usize {
         self.held.size() / self.width
     }

@@ -1,11 +1,12 @@
-"""Columns as plain bytes, and the buffers of several arrays end to end."""
+"""Columns as plain bytes, and the rows of several arrays as one."""
 
 from __future__ import annotations
 
 from array import array as numbers_of
-from typing import Any, List, NamedTuple, Optional, Sequence, Tuple
+from typing import Any, Iterator, List, NamedTuple, Optional, Sequence, Tuple
 
-from ._arrays import NULLABLE, Array, Field, Plain, Tree
+from . import _native
+from ._arrays import NULLABLE, Array, Field, Node, Plain, Tree, array_of, array_over
 from ._buffers import end_to_end
 from ._reading import rows, width_of
 from ._types import ids_of, spelled
@@ -336,12 +337,138 @@ def _plain(field: Field, pieces: Sequence[_Piece]) -> Plain:
     return Plain(length, 0 if valid is None else -1, (valid, *more), below, inner)
 
 
-def joined(field: Field, arrays: Sequence[Any]) -> Plain:
+# ---- By the library
+
+# How many bytes the first offset has, which is there without rows too.
+OFFSETS = {"u": 4, "z": 4, "+l": 4, "+m": 4, "U": 8, "Z": 8, "+L": 8}
+
+
+
+def _fields(field: Field) -> Iterator[Field]:
+    """Yield a type and all types in it."""
+    yield field
+    for child in field.children:
+        yield from _fields(child)
+    if field.dictionary is not None:
+        yield from _fields(field.dictionary)
+
+
+def _viewed(node: Node) -> int:
+    """Return how many bytes the data buffers of views have together."""
+    own = node.buffers[2:-1] if node.format in ("vu", "vz") else ()
+    inner = [] if node.dictionary is None else [node.dictionary]
+    return sum(len(data or b"") for data in own) + sum(map(_viewed, [*node.children, *inner]))
+
+
+def is_carried(field: Field, arrays: Sequence[Array]) -> bool:
+    """Return whether the library joins the arrays.
+
+    It joins no dense unions, and writes as many data buffers of views as one array has.
+    """
+    formats = {of.format for of in _fields(field)}
+    if any(form[:3] == "+ud" for form in formats):
+        return False
+    if not formats & {"vu", "vz"}:
+        return True
+    return sum(_viewed(array.node) for array in arrays) < MOST_VIEWED
+
+
+def _plain_of(field: Field, node: Node) -> Plain:
+    """Return a copy of the buffers of an array that begins with them, as values that pickle."""
+    buffers = [None if data is None else bytes(data) for data in node.buffers]
+    if not node.length and field.format in OFFSETS:
+        buffers[1] = bytes(OFFSETS[field.format])
+    children = tuple(_plain_of(*both) for both in zip(field.children, node.children))
+    inner = None
+    if field.dictionary is not None and node.dictionary is not None:
+        # A dictionary is shared with the column that it came from, so it may begin later.
+        inner = joined(field.dictionary, _with_dictionaries(field.dictionary, [node.dictionary]))
+    return Plain(node.length, node.null_count, tuple(buffers), children, inner)
+
+
+def _is_same_memory(one: Node, other: Node) -> bool:
+    """Return whether two flat arrays are the same rows of the same buffers."""
+    if one.children or one.dictionary or other.children or other.dictionary:
+        return False
+    return (one.offset, one.length, one.places) == (other.offset, other.length, other.places)
+
+
+def _texts(node: Node) -> str:
+    """Return the rows of a dictionary as a text, which is another one for other rows."""
+    return repr(rows(Tree(node), 0, node.length))
+
+
+def _inner_of(nodes: Sequence[Node]) -> Node:
+    """Return the dictionary of the first array that has rows.
+
+    Raises:
+        ValueError: Another array that has rows has other rows in its dictionary.
+    """
+    inner = [node.dictionary for node in nodes if node.length] or [nodes[0].dictionary]
+    first, *others = [node for node in inner if node is not None]
+    others = [other for other in others if not _is_same_memory(first, other)]
+    texts = _texts(first) if others else ""
+    if any(_texts(other) != texts for other in others):
+        raise ValueError("expected parts with one dictionary, got different dictionaries")
+    return first
+
+
+def _with_dictionaries(field: Field, nodes: Sequence[Node]) -> List[Array]:
+    """Return arrays of one type that have one dictionary.
+
+    Raises:
+        ValueError: The dictionaries have different rows.
+    """
+    below = zip(*(_with_dictionaries(child, [node.children[k] for node in nodes])
+                  for k, child in enumerate(field.children)))
+    inner = None
+    if field.dictionary is not None:
+        inner = _with_dictionaries(field.dictionary, [_inner_of(nodes)])[0]
+    children = list(below) or [()] * len(nodes)
+    made = []
+    for node, own in zip(nodes, children):
+        rows_of = node.length, node.null_count, node.offset
+        made.append(array_over(field, rows_of, node.buffers, own, inner))
+    return made
+
+
+def _unified(field: Field, arrays: Sequence[Array]) -> Sequence[Array]:
+    """Return arrays that have one dictionary.
+
+    Raises:
+        ValueError: The dictionaries have different rows.
+    """
+    if all(of.dictionary is None for of in _fields(field)):
+        return arrays
+    return _with_dictionaries(field, [array.node for array in arrays])
+
+
+def concatenated(field: Field, arrays: Sequence[Array]) -> Array:
     """Return the rows of arrays of one type end to end, in memory of their own.
 
     Raises:
-        ValueError: The arrays have different dictionaries, lead outside of their memory, or are of
-            a format that isn't known.
+        ValueError: The arrays have different dictionaries, or aren't valid.
         OverflowError: The arrays have more items than their offsets can count.
     """
-    return _plain(field, [piece_of(array) for array in arrays])
+    if not is_carried(field, arrays):
+        return array_of(field, _plain(field, [piece_of(array) for array in arrays]))
+    some = [array for array in arrays if len(array)] or arrays[:1]
+    return _native.concatenate(_unified(field, some))
+
+
+def interleaved(field: Field, arrays: Sequence[Array], parts: Any, rows_of: Any) -> Array:
+    """Return for each k row `rows_of[k]` of array `parts[k]`; both are 64-bit numbers.
+
+    The exceptions are those of `concatenated`.
+    """
+    return _native.interleave(_unified(field, arrays), parts, rows_of)
+
+
+def joined(field: Field, arrays: Sequence[Array]) -> Plain:
+    """Return the rows of arrays of one type end to end, as values that pickle.
+
+    The exceptions are those of `concatenated`.
+    """
+    if not is_carried(field, arrays):
+        return _plain(field, [piece_of(array) for array in arrays])
+    return _plain_of(field, concatenated(field, arrays).node)

@@ -7,11 +7,12 @@ from typing import Any, Callable, List, Optional, Sequence, Tuple, Union
 
 from . import _cuts as cuts
 from . import _native
+from ._arrays import Field
 from ._buffers import whole_words
-from ._joining import difference, joined
-from ._sources import Source, column_of, source_of
+from ._joining import concatenated, difference, interleaved, is_carried
+from ._sources import Source, source_of
 from ._steps import BrokenStep, Filter, Slice, Take, called, counted, images_of
-from .columns import Column, select
+from .columns import Column, column_over, select
 from .kernels import positions
 
 
@@ -102,6 +103,14 @@ class _Order:
         self, parts: Sequence[int], rows: Sequence[int], ends: Sequence[int], valid: bytes
     ):
         self.parts, self.rows, self.ends, self.valid = parts, rows, ends, valid
+
+    def is_whole(self, field: Field, found: List[Tuple[int, Source]]) -> bool:
+        """Return whether the library puts the rows in order: none is null, and each part returned
+        one array.
+        """
+        if self.valid or any(len(source.arrays) != 1 for _, source in found):
+            return False
+        return is_carried(field, [source.arrays[0] for _, source in found])
 
     def take(self) -> Take:
         """Return the step that orders the rows of the parts, which are end to end."""
@@ -286,6 +295,18 @@ def _answered(asked: Plan, answers: Sequence[Any]) -> List[Tuple[int, Source]]:
     return found
 
 
+def _whole(plan: Plan, field: Field, found: List[Tuple[int, Source]]) -> Column:
+    """Return the rows of the parts in the order of a plan."""
+    order = plan._order
+    if order is not None and order.is_whole(field, found):
+        some = {k: source.arrays[0] for k, source in found if len(source)}
+        other = found[0][1].arrays[0]
+        arrays = [some.get(k, next(iter(some.values()), other)) for k in range(len(plan))]
+        return column_over([interleaved(field, arrays, order.parts, order.rows)])
+    whole = column_over([concatenated(field, [one for _, each in found for one in each.arrays])])
+    return whole if order is None else select(whole, [order.take()])
+
+
 def put_together(plan: Plan, answers: Sequence[Any]) -> Column:
     """Return the result of the steps, given the rows that the parts returned.
 
@@ -313,6 +334,4 @@ def put_together(plan: Plan, answers: Sequence[Any]) -> Column:
         said = difference(other.field, source.field)
         if said:
             raise ValueError(f"part {k}: expected {said[1]}, as part {first} has, got {said[0]}")
-    plain = joined(source.field, [array for _, other in found for array in other.arrays])
-    whole = column_of(source.field, plain)
-    return whole if plan._order is None else select(whole, [plan._order.take()])
+    return _whole(plan, source.field, found)

@@ -107,6 +107,8 @@ pub mod status {
     pub const FORMAT: u64 = 8;
     /// A null is selected of a union.
     pub const NULL_PICK: u64 = 9;
+    /// Columns differ in type or dictionary.
+    pub const UNLIKE: u64 = 10;
     /// A struct doesn't match its format, or is released.
     pub const SHAPE: u64 = 16;
     /// Columns are nested too deep.
@@ -185,6 +187,18 @@ pub struct Answer {
     pub node_or_step: u64,
     /// What the node lacks, or why the step is invalid.
     pub what: u64,
+}
+
+/// Rows of one of several columns that follow one another: `vortex_arrow_span`.
+#[repr(C)]
+#[derive(Clone, Copy, Debug, PartialEq, Eq)]
+pub struct Span {
+    /// The number of the column.
+    pub column: u64,
+    /// The first row.
+    pub start: u64,
+    /// How many rows there are.
+    pub len: u64,
 }
 
 /// `vortex_arrow_error`.
@@ -269,6 +283,17 @@ extern "C" {
         n_steps: usize,
         out_schema: *mut ArrowSchema,
         out_array: *mut ArrowArray,
+        error: *mut Fault,
+    ) -> u64;
+
+    /// Gathers rows of several arrays of one type.
+    pub fn vortex_interleave_arrow(
+        schema: *const ArrowSchema,
+        arrays: *const *mut ArrowArray,
+        n_arrays: usize,
+        spans: *const Span,
+        n_spans: usize,
+        out: *mut ArrowArray,
         error: *mut Fault,
     ) -> u64;
 

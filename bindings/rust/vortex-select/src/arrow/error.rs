@@ -64,6 +64,8 @@ pub enum Error {
     Format(String),
     /// A null is selected of a union, whose rows are never null.
     NullPick(String),
+    /// Columns that are to be one differ in type, or have different dictionaries.
+    Unlike(String),
     /// A struct doesn't match its format, or is released.
     Shape(String),
     /// Columns are nested too deep.
@@ -106,6 +108,7 @@ impl Error {
             status::NO_MEMORY => Error::NoMemory,
             status::FORMAT => Error::Format(text),
             status::NULL_PICK => Error::NullPick(text),
+            status::UNLIKE => Error::Unlike(text),
             status::SHAPE => Error::Shape(text),
             status::DEPTH => Error::Depth(text),
             status::SOURCE => Error::Source(text),
@@ -155,6 +158,7 @@ impl fmt::Display for Error {
             | Error::Overflow(text)
             | Error::Format(text)
             | Error::NullPick(text)
+            | Error::Unlike(text)
             | Error::Shape(text)
             | Error::Depth(text)
             | Error::Source(text) => f.write_str(text),

@@ -1,0 +1,6 @@
+-- Four bytes.
+use Rattle.vx_arrow_image.proofs.OffsetReads.{read_short}
+use Rattle.vx_arrow_interleave.proofs.list_views.short_number.Goals as goal
+
+pub returns : goal.returns
+returns c = read_short c.args.numbers.now c.args.j _ c.requires c.from_le_bytes.ensures

@@ -1,0 +1,12 @@
+pub mod Bytes
+pub mod Cuts
+pub mod Given
+pub mod Joined
+pub mod Planned
+pub mod Refusals
+pub mod Sources
+pub mod Spots
+pub mod Taken
+pub mod Tested
+pub mod TextViews
+pub mod Views
